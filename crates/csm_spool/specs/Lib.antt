@@ -7,3 +7,4 @@ pub mod Foreseeing
 pub mod Stepping
 pub mod Catching
 pub mod Laws
+pub mod Going

@@ -40,7 +40,8 @@ fn put(writer: &mut Writer, message: &Message, closing: &Closing) -> Result<(), 
 /// that of its own authenticated text, or the stated one.
 ///
 /// That it is read back as the message, where the texts of the message are of their kinds, its form allows the code and the text has
-/// at most 1,024 bytes, is a law of canonical texts (`law_canon_reads_back`, crate canon_laws).
+/// at most 1,024 bytes, is a law of canonical texts (`law_canon_reads_back`, crate canon_laws), as is that what is read of it has
+/// this text again (`law_canon_rewrites`).
 pub fn write(alloc: Global, message: &Message, closing: &Closing) -> Result<Text, NoMemory>
     ensures canonical { IfOk result (λ text. text ≡ canon message.now closing.now) }
     ensures typed { OnOk result (AreTyped message.now closing.now) }

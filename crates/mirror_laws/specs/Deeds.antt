@@ -16,8 +16,10 @@ use Rattle.world_laws.specs.World.{World, member_at}
 use Rattle.world_laws.specs.Events.{Action, Compacts, Migrates, Event, Whole, CutNew}
 use Rattle.world_laws.specs.Laws.{OneKeyPerCount, Once, Agreement, EndedBoth}
 use Rattle.call_laws.specs.Deeds.{event_of, IsCutOrNone, IsCallOf}
+use Rattle.call_laws.specs.Sessions.{reply_of}
+use Rattle.mirror_laws.specs.Batches.{IsBatchOf}
 use Rattle.mirror_laws.specs.Runs.{Which, FirstDisk, SecondDisk, PairEvent, Happens, Loses, pair_run, ArePairEvents, HonestPairRun}
-use Rattle.mirror_laws.specs.Sessions.{Tending, Compacting, Migrating, Wiping, PairDeed, Called, CutOff, Shown, ShowCutOff, Tended, TendCutOff, Aside, PowerFails, Lost, pair_texts_in}
+use Rattle.mirror_laws.specs.Sessions.{Tending, Compacting, Migrating, Wiping, PairDeed, Called, CutOff, Shown, ShowCutOff, Tended, TendCutOff, Batched, Aside, PowerFails, Lost}
 
 -- the event is cut off with the new state, or there is none
 abbrev pub IsCutNewOrNone : List ℕ → Action → ℕ → List PairEvent → Type 0
@@ -99,31 +101,36 @@ IsCutTendingOf FirstDisk Migrating name moment es = IsCutNewOrNone name Migrates
 IsCutTendingOf FirstDisk Wiping name moment es = es ≡ []
 IsCutTendingOf SecondDisk t name moment es = es ≡ []
 
--- a show is none, or a loss as above; what writes no party's disk is none, nor is a failure of power while none is written; a loss is
--- that loss. `disks` is what the shelf tells of each disk before
-abbrev pub IsOfPairDeed : (List ℕ → Option (List ℕ)) → PairDeed → (List ℕ → View) → List PairEvent → Type 0
-IsOfPairDeed mirror (Called name action moment o) disks es = IsCallOn (mirror name) o name action moment (disks name) es
-IsOfPairDeed mirror (CutOff name action moment o) disks es = IsCutOn (mirror name) name action moment (disks name) es
-IsOfPairDeed mirror (Shown name) disks es = IsLostAgainOrNot name (disks name) es
-IsOfPairDeed mirror (ShowCutOff name) disks es = IsLostAgainOrNot name (disks name) es
-IsOfPairDeed mirror (Tended name which t moment o) disks es = IsTendingOf which t o name moment es
-IsOfPairDeed mirror (TendCutOff name which t moment o) disks es = IsCutTendingOf which t name moment es
-IsOfPairDeed mirror Aside disks es = es ≡ []
-IsOfPairDeed mirror PowerFails disks es = es ≡ []
-IsOfPairDeed mirror (Lost name which) disks es = es ≡ Loses name which ∷ []
+-- The events of a deed, and the texts that they write: those of a call as above, and what it handed out; of a show none, or a loss as
+-- above; of a batch those of its entries; none where no party's disk is written, nor of a failure of power while none is; that loss of a
+-- loss. `disks` is what the shelf tells of each disk before
+abbrev pub IsOfPairDeed : (List ℕ → Option (List ℕ)) → PairDeed → (List ℕ → View) → List PairEvent → List (List ℕ) → Type 0
+IsOfPairDeed mirror (Called name action moment o) disks es texts = IsCallOn (mirror name) o name action moment (disks name) es × (texts ≡ reply_of o)
+IsOfPairDeed mirror (CutOff name action moment o) disks es texts = IsCutOn (mirror name) name action moment (disks name) es × (texts ≡ [])
+IsOfPairDeed mirror (Shown name) disks es texts = IsLostAgainOrNot name (disks name) es × (texts ≡ [])
+IsOfPairDeed mirror (ShowCutOff name) disks es texts = IsLostAgainOrNot name (disks name) es × (texts ≡ [])
+IsOfPairDeed mirror (Tended name which t moment o) disks es texts = IsTendingOf which t o name moment es × (texts ≡ [])
+IsOfPairDeed mirror (TendCutOff name which t moment o) disks es texts = IsCutTendingOf which t name moment es × (texts ≡ [])
+IsOfPairDeed mirror (Batched name spool text entries o) disks es texts = IsBatchOf name entries o es texts
+IsOfPairDeed mirror Aside disks es texts = (es ≡ []) × (texts ≡ [])
+IsOfPairDeed mirror PowerFails disks es texts = (es ≡ []) × (texts ≡ [])
+IsOfPairDeed mirror (Lost name which) disks es texts = (es ≡ Loses name which ∷ []) × (texts ≡ [])
 
--- the events are those of the first deed, and then those of the others
-pub record IsPairFollowed (first_is rest : List PairEvent → Type 0) (es : List PairEvent) : Type 0 where
+-- the events are those of the first deed, and then those of the others, and so are the texts
+pub record IsPairFollowed (first_is rest : List PairEvent → List (List ℕ) → Type 0) (es : List PairEvent) (texts : List (List ℕ)) : Type 0 where
   pub first : List PairEvent
   pub others : List PairEvent
   pub whole : es ≡ first ++ others
-  pub is : first_is first
-  pub follow : rest others
+  pub first_texts : List (List ℕ)
+  pub other_texts : List (List ℕ)
+  pub all : texts ≡ first_texts ++ other_texts
+  pub is : first_is first first_texts
+  pub follow : rest others other_texts
 
--- the events of the deeds, in their order; the first is done over the disks of this number
-abbrev pub AreOfPairDeeds : (List ℕ → Option (List ℕ)) → List PairDeed → ℕ → (ℕ → List ℕ → View) → List PairEvent → Type 0
-AreOfPairDeeds mirror [] k disks es = es ≡ []
-AreOfPairDeeds mirror (d ∷ ds) k disks es = IsPairFollowed (IsOfPairDeed mirror d (disks k)) (AreOfPairDeeds mirror ds (suc k) disks) es
+-- the events of the deeds, in their order, and the texts; the first is done over the disks of this number
+abbrev pub AreOfPairDeeds : (List ℕ → Option (List ℕ)) → List PairDeed → ℕ → (ℕ → List ℕ → View) → List PairEvent → List (List ℕ) → Type 0
+AreOfPairDeeds mirror [] k disks es texts = (es ≡ []) × (texts ≡ [])
+AreOfPairDeeds mirror (d ∷ ds) k disks es texts = IsPairFollowed (IsOfPairDeed mirror d (disks k)) (AreOfPairDeeds mirror ds (suc k) disks) es texts
 
 -- the member's party is the one to be opened of the two images, with its space; the space isn't said where the first image is blank
 -- and the party is too large to be written over it
@@ -145,14 +152,15 @@ pub record MayLeaveOf (mirror : List ℕ → Option (List ℕ)) (disks : List �
 abbrev pub AllMayLeave : (List ℕ → Option (List ℕ)) → (List ℕ → View) → World → (List ℕ → List ℕ) → Type 0
 AllMayLeave mirror disks w image = (name : List ℕ) (x : Member) → member_at name w.members ≡ Some x → MayLeaveOf mirror disks name image
 
--- there are events of these deeds after which the images stand for the members, and the network has written what was handed out; so
--- the laws hold of it. `image` is an image of each disk
+-- there are events of these deeds after which the images stand for the members, and the network has written the texts of these deeds;
+-- so the laws hold of it. `image` is an image of each disk
 pub record EndsAsPairDone (start : World) (mirror : List ℕ → Option (List ℕ)) (deeds : List PairDeed) (disks : ℕ → List ℕ → View) (image : List ℕ → List ℕ) : Type 0 where
   pub events : List PairEvent
-  pub of_deeds : AreOfPairDeeds mirror deeds 0 disks events
+  pub texts : List (List ℕ)
+  pub of_deeds : AreOfPairDeeds mirror deeds 0 disks events texts
   pub are_events : ArePairEvents events
   pub images : (name : List ℕ) (x : Member) → member_at name (pair_run 1 start events).members ≡ Some x → AreImagesOf (mirror name) name image x
-  pub texts_are : (pair_run 1 start events).texts ≡ start.texts ++ pair_texts_in deeds
+  pub texts_are : (pair_run 1 start events).texts ≡ start.texts ++ texts
   pub counts : OneKeyPerCount (pair_run 1 start events)
   pub once : Once (pair_run 1 start events)
   pub agreement : HonestPairRun 1 start events → Agreement (pair_run 1 start events)

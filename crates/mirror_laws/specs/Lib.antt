@@ -5,3 +5,4 @@ pub mod Calls
 pub mod Sessions
 pub mod Deeds
 pub mod SettingUp
+pub mod Batches

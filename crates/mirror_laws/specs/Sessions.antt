@@ -1,21 +1,25 @@
 -- Calls over a network whose parties keep one disk or two, one after the other, with failures of power and losses of a disk (this
 -- project's profile). `mirror` names the second disk of each party that keeps two. `old`, `mid` and `new` are what the shelf tells of
 -- each disk before, where a call ends, and afterwards.
-use Rattle.std.specs.Prelude.{◌≡◌, ◌≢◌, ℕ, suc, true, false, Option, Some, None, List, [], ◌∷◌, ◌++◌}
+use Rattle.std.specs.Prelude.{◌≡◌, ◌≢◌, ℕ, suc, true, false, Option, Some, None, is_some, List, [], ◌∷◌}
 use Rattle.x_disk.specs.Disk.{View, IsDurable, IsUntouched, Tells}
 use Rattle.x_disk.specs.Shelf.{OthersStay}
 use Rattle.key_journal.specs.Journal.{is_blank}
 use Rattle.party_state.specs.declared.command.Input.{Input}
 use Rattle.party_state.specs.declared.command.Input.TheVariants as input
 use Rattle.member.specs.Member.{Member}
+use Rattle.csm_batch.specs.declared.entry.Entry.{Entry}
 use Rattle.disk_pair.specs.Pairs.{ThirdsStay}
 use Rattle.x_party.specs.Images.{DiskStandsFor}
 use Rattle.x_party.specs.Outcomes.{CompactsParty, MigratesParty, WipesParty, IsSafeCompaction, IsSafeMigration, IsSafeWiping}
 use Rattle.x_party.specs.declared.outcome.Outcome.{Outcome}
 use Rattle.x_pair.specs.Outcomes.{BothStand, MakesPair, IsSafePair, showing, turning}
+use Rattle.x_spool.specs.Outcomes.{MakesBatch}
+use Rattle.x_spool.specs.Onward.{GoesOnward}
+use Rattle.x_spool.specs.declared.outcome.SpoolOutcome.{SpoolOutcome}
 use Rattle.world_laws.specs.World.{World, member_at}
 use Rattle.world_laws.specs.Events.{Action, Orders, Hears, Compacts, Migrates, IsAction}
-use Rattle.call_laws.specs.Sessions.{IsMade, IsOff, reply_of}
+use Rattle.call_laws.specs.Sessions.{IsMade, IsOff}
 use Rattle.mirror_laws.specs.Runs.{Which, FirstDisk, SecondDisk}
 
 -- what is done with one disk of a party, which stays as it is: the party is written whole in its format, or in format 2, or what
@@ -25,12 +29,14 @@ pub data Tending : Type 0 where
 
 -- what is done: the party of this name is called over its one disk or its two, at a moment, with an outcome; it is called, and the
 -- power fails at some moment from the beginning of the call to the end that it would have; it is shown over its two disks, with or
--- without such a failure; one disk of it is tended, with or without such a failure; something is done that writes no party's disk; the
--- power fails while no such disk is written; or one of a party's two disks is lost between two calls
+-- without such a failure; one disk of it is tended, with or without such a failure; a batch is taken at it, with the spool of that name, the
+-- bytes of the batch and its entries; something is done that writes no party's disk; the power fails while no such disk is written; or
+-- one of a party's two disks is lost between two calls
 pub data PairDeed : Type 0 where
   Called CutOff : List ℕ → Action → ℕ → Outcome → PairDeed
   Shown ShowCutOff : List ℕ → PairDeed
   Tended TendCutOff : List ℕ → Which → Tending → ℕ → Outcome → PairDeed
+  Batched : List ℕ → List ℕ → List ℕ → List Entry → SpoolOutcome → PairDeed
   Aside PowerFails : PairDeed
   Lost : List ℕ → Which → PairDeed
 
@@ -124,6 +130,18 @@ pub record IsNobodys (start : World) (mirror : List ℕ → Option (List ℕ)) (
   pub no_first : (x : Member) → member_at file start.members ≢ Some x
   pub no_second : (name : List ℕ) (x : Member) → member_at name start.members ≡ Some x → mirror name ≢ Some file
 
+-- a batch is taken at a member that keeps one disk, beside a spool on a file that is no disk of a member; all others stay. A failure of
+-- power amid it is a call of a disk that is begun and fails, as each one behind it does, and a failure of power when it has ended
+pub record IsBatched (start : World) (mirror : List ℕ → Option (List ℕ)) (name spool text : List ℕ) (entries : List Entry) (o : SpoolOutcome) (old new : List ℕ → View) : Type 0 where
+  pub member : Member
+  pub at : member_at name start.members ≡ Some member
+  pub alone : mirror name ≡ None
+  pub nobodys : IsNobodys start mirror spool
+  pub made : MakesBatch name text entries (old name) (old spool) (new name) (new spool) o
+  pub onward : GoesOnward name text entries (old name) (old spool) (new name) o
+  pub tells : is_some (new name).now ≡ is_some (old name).now
+  pub others : ThirdsStay name spool old new
+
 -- the power failed at some moment of the call of this name: of each of its disks one of the images is read that could be left then,
 -- which need not be of the same moment
 pub record PairOffWithin (mirror : List ℕ → Option (List ℕ)) (name : List ℕ) (old mid new : List ℕ → View) : Type 0 where
@@ -168,6 +186,7 @@ IsDeedDone start mirror (Shown name) old mid new = IsPairShown start mirror name
 IsDeedDone start mirror (ShowCutOff name) old mid new = IsPairShown start mirror name old mid × PairOffWithin mirror name old mid new
 IsDeedDone start mirror (Tended name which t moment o) old mid new = IsTended start mirror name which t o old new
 IsDeedDone start mirror (TendCutOff name which t moment o) old mid new = IsTended start mirror name which t o old mid × PairOffWithin mirror name old mid new
+IsDeedDone start mirror (Batched name spool text entries o) old mid new = IsBatched start mirror name spool text entries o old new
 IsDeedDone start mirror Aside old mid new = IsAside start mirror old new
 IsDeedDone start mirror PowerFails old mid new = AllOwnOff start mirror old new
 IsDeedDone start mirror (Lost name which) old mid new = IsLost start mirror name which old new
@@ -176,21 +195,3 @@ IsDeedDone start mirror (Lost name which) old mid new = IsLost start mirror name
 abbrev pub AreDeedsDone : World → (List ℕ → Option (List ℕ)) → List PairDeed → ℕ → (ℕ → List ℕ → View) → (ℕ → List ℕ → View) → Type 0
 AreDeedsDone start mirror [] k disks ends = Unit {0}
 AreDeedsDone start mirror (d ∷ ds) k disks ends = IsDeedDone start mirror d (disks k) (ends k) (disks (suc k)) × AreDeedsDone start mirror ds (suc k) disks ends
-
--- what was handed out, joined: nothing by a call that failed or was cut off, nor where one disk is tended. What is shown of a party is
--- no text, nor what else comes out where no party's disk is written
-
-abbrev pub pair_deed_texts : PairDeed → List (List ℕ)
-pair_deed_texts (Called name action moment o) = reply_of o
-pair_deed_texts (CutOff name action moment o) = []
-pair_deed_texts (Shown name) = []
-pair_deed_texts (ShowCutOff name) = []
-pair_deed_texts (Tended name which t moment o) = []
-pair_deed_texts (TendCutOff name which t moment o) = []
-pair_deed_texts Aside = []
-pair_deed_texts PowerFails = []
-pair_deed_texts (Lost name which) = []
-
-abbrev pub pair_texts_in : List PairDeed → List (List ℕ)
-pair_texts_in [] = []
-pair_texts_in (d ∷ ds) = pair_deed_texts d ++ pair_texts_in ds

@@ -67,7 +67,7 @@ IsBlankRefusal second TooLarge = (party : Party) × Stands second party × IsToo
 pub record IsOverBlank {D : Type 0} (told : D → View) (old : Disks D) (result : Result (Twin D) (PairUnmade D)) : Type 0 where
   pub stand : IfOk result (IsTwin told)
   pub exact : IfOk result (λ m. (j : List ℕ) → (told old.second).now ≡ Some j → Stands j m.first.party)
-  -- it is alone there as one frame, for which it isn't too large
+  -- its room is that behind one frame, for which it isn't too large
   pub left : IfOk result (λ m. space m.first ≡ space_of_whole Two m.first.party)
   pub second_left : IfOk result (λ m. (j : List ℕ) → (told old.second).now ≡ Some j → StandsWith j m.first.party (space m.second))
   pub small : IfOk result (λ m. IsTooLarge Two m.first.party → ⊥)

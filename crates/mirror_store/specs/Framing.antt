@@ -32,7 +32,7 @@ IsUncopied told old party (uncopied.Failed u) = ((b : List ℕ) → (told old).n
 pub record IsCopying {D : Type 0} (told : D → View) (old : D) (P : List ℕ → Type 0) (copy : Party) (result : Result (Stored D) (Uncopied D)) : Type 0 where
   pub stands : IfOk result (λ s. IsStore (told s.disk) s.gate s.end s.format s.party)
   pub party : IfOk result (λ s. s.party ≡ copy)
-  -- it is alone there as one frame, for which it isn't too large
+  -- its room is that behind one frame, for which it isn't too large
   pub left : IfOk result (λ s. space s ≡ space_of_whole Two copy)
   pub small : IfOk result (λ s. IsTooLarge Two copy → ⊥)
   pub refused : IfErr result (IsUncopied told old copy)

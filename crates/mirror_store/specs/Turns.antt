@@ -45,8 +45,8 @@ pair_plan_at x i moment = pair_plan x.party (plan_at x i moment)
 abbrev pub DoesNotFit : Member → List Edit → Type 0
 DoesNotFit x es = (fits x.space es ≡ false) ⊎ ((es ≢ []) × IsTooLarge Two (apply es x.party))
 
--- the edits are kept on the first disk, and the party after them alone in an area on the second; where there are none, neither
--- disk is touched
+-- the edits are kept on the first disk, and the party after them on the second, with the room behind one frame of it; where there
+-- are none, neither disk is touched
 abbrev pub IsKeptTwice : {D : Type 0} → List Edit → Twin D → Twin D → Type 0
 IsKeptTwice [] old new = new ≡ old
 IsKeptTwice (e ∷ es) old new = (member_of new.first ≡ after (member_of old.first) (e ∷ es)) × (space new.second ≡ space_of_whole Two (apply (e ∷ es) old.first.party))

@@ -25,9 +25,8 @@ pub struct NotOpened<D: Disk> {
 }
 
 impl<D: Disk> Node<D> {
-    /// Opens the party for which the image stands, where that is the one of the name. Where another stands, `OtherParty` comes, a fault
-    /// or want of memory, and `OtherParty` comes nowhere else; otherwise the cause is that of `open_from`. The disk comes back with each
-    /// of them.
+    /// Opens the party of the name, where the image stands for it. `OtherParty` comes only where it stands for another, with whose
+    /// identity; a fault or lack of memory may come there too. Each other cause is one of `open_from`. The disk comes back.
     pub fn open_named(alloc: Global, disk: D, name: &Ident) -> Result<Node<D>, NotOpened<D>>
         ensures opened { IfOk result (IsOpenedNamed D.told name.now disk) }
         ensures failed { IfErr result (λ n. IsNotOpenedNamed D.told name.now disk n.disk n.why) }

@@ -95,8 +95,8 @@ world_by_row n w x text r CutNew = cond (is_accept r.verdict && (is_change (diff
 abbrev pub world_with_space : World → Member → Space → World
 world_with_space w x space = record w { members = put_row own_of bytes_eq (record { party = x.party; space = space }) w.members }
 
--- the party is written whole in this format, where it isn't too large for it, and is alone in its area then; where there is no
--- format in which it is to be written, nothing changes. Cut, that or nothing
+-- the party is written whole in this format, where it isn't too large for it, and has the room behind one frame of it then; where
+-- there is no format in which it is to be written, nothing changes. Cut, that or nothing
 abbrev pub world_rewritten : Option Format → World → Member → Completion → World
 world_rewritten None w x completion = w
 world_rewritten (Some f) w x CutOld = w

@@ -5,3 +5,4 @@ pub mod Steps
 pub mod Outboxes
 pub mod Looks
 pub mod Inbox
+pub mod Onward

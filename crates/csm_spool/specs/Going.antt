@@ -1,0 +1,79 @@
+-- How a batch goes on from where its party stands, whoever commanded that before (this project's profile).
+use Rattle.std.specs.Prelude.{◌≡◌, ◌⊎◌, ℕ, List, ◌++◌, length, drop}
+use Rattle.x_disk.specs.Disk.{View, Tells}
+use Rattle.key_store.specs.Store.{Stored}
+use Rattle.member.specs.Member.{Member}
+use Rattle.node_core.specs.Turns.{member_of, IsImageOf}
+use Rattle.csm_batch.specs.declared.entry.Entry.{Entry}
+use Rattle.spool_store.specs.declared.entry_plan.EntryPlan.{EntryPlan}
+use Rattle.spool_store.specs.Contents.{Progress}
+use Rattle.spool_store.specs.Spools.{Spooled}
+use Rattle.csm_spool.specs.declared.outcome.Driven.{Driven}
+use Rattle.csm_spool.specs.declared.outcome.Driven.TheVariants.{Done, OutOfStep, NodeBroken, SpoolBroken, NoMemory}
+use Rattle.csm_spool.specs.Courses.{EntriesLead}
+use Rattle.csm_spool.specs.Drives.{party_disk}
+use Rattle.csm_spool.specs.Catching.{CatchesUp}
+
+-- the entries behind the plans that stand
+abbrev pub open_entries : Progress → List Entry
+open_entries p = drop (length p.plans) p.entries
+
+-- the last plan that stands is settled, or taken up from here, and then the entries behind lead on by these plans
+pub record GoesOn (x : Member) (p : Progress) (more : List EntryPlan) (y : Member) : Type 0 where
+  pub there : Member
+  pub caught_up : CatchesUp x there p
+  pub course : EntriesLead there (open_entries p) more y
+
+-- the member is as it was, or has gone on so
+abbrev pub HasGoneOn : Member → Progress → Member → Type 0
+HasGoneOn x p y = (y ≡ x) ⊎ ((more : List EntryPlan) × GoesOn x p more y)
+
+-- the plans that stood stay in front, and the member has gone on by all others
+pub record HasGoneThrough (x : Member) (old new : Progress) (y : Member) : Type 0 where
+  pub more : List EntryPlan
+  pub split : new.plans ≡ old.plans ++ more
+  pub goes : GoesOn x old more y
+
+-- so it has where the batch is done
+abbrev pub GoesThrough : {D E : Type 0} → Member → Progress → Driven D E → Type 0
+GoesThrough x old (Done after new) = HasGoneThrough x old new.progress (member_of after)
+GoesThrough x old (OutOfStep after new entry) = Unit {0}
+GoesThrough x old (NodeBroken b new) = Unit {0}
+GoesThrough x old (SpoolBroken after b) = Unit {0}
+GoesThrough x old (NoMemory after new) = Unit {0}
+
+-- the image stands for the member as it was, or as it has gone on
+pub record IsLeftGoing (x : Member) (p : Progress) (image : List ℕ) : Type 0 where
+  pub member : Member
+  pub way : HasGoneOn x p member
+  pub stands : IsImageOf member image
+
+-- what became of a batch: whatever came, each image that a crash may leave of a party's disk that tells is such a one
+pub record GoesAnyhow {D E : Type 0} (told_party : D → View) (node : Stored D) (old : Spooled E) (result : Driven D E) : Type 0 where
+  pub through : GoesThrough (member_of node) old.progress result
+  pub left : Tells (told_party node.disk) → (c : List ℕ) → (told_party (party_disk result)).may_leave c → IsLeftGoing (member_of node) old.progress c
+
+-- from a party that carries out no plan any more
+
+-- the plans that stood stay in front, and the entries behind lead by all others
+pub record HasRunThrough (x : Member) (old new : Progress) (y : Member) : Type 0 where
+  pub more : List EntryPlan
+  pub split : new.plans ≡ old.plans ++ more
+  pub course : EntriesLead x (open_entries old) more y
+
+abbrev pub RunsThrough : {D E : Type 0} → Member → Progress → Driven D E → Type 0
+RunsThrough x old (Done after new) = HasRunThrough x old new.progress (member_of after)
+RunsThrough x old (OutOfStep after new entry) = Unit {0}
+RunsThrough x old (NodeBroken b new) = Unit {0}
+RunsThrough x old (SpoolBroken after b) = Unit {0}
+RunsThrough x old (NoMemory after new) = Unit {0}
+
+pub record IsLeftRunning (x : Member) (p : Progress) (image : List ℕ) : Type 0 where
+  pub member : Member
+  pub more : List EntryPlan
+  pub course : EntriesLead x (open_entries p) more member
+  pub stands : IsImageOf member image
+
+pub record RunsAnyhow {D E : Type 0} (told_party : D → View) (node : Stored D) (old : Spooled E) (result : Driven D E) : Type 0 where
+  pub through : RunsThrough (member_of node) old.progress result
+  pub left : Tells (told_party node.disk) → (c : List ℕ) → (told_party (party_disk result)).may_leave c → IsLeftRunning (member_of node) old.progress c
