@@ -11,6 +11,7 @@ use Rattle.csm_batch.specs.Batches.{IsBatch, IsFirstBad}
 use Rattle.csm_spool.specs.InStep.{PairsInStep}
 use Rattle.x_spool.specs.Dues.{FindsMember, IsDueBatch}
 use Rattle.x_spool.specs.Outcomes.{MakesBatch, StaysInStep}
+use Rattle.x_spool.specs.Onward.{GoesOnward}
 use Rattle.x_spool.specs.Outboxes.{IsDueOutbox, ShowsOutbox}
 use Rattle.x_spool.specs.declared.outcome.SpoolOutcome.{SpoolOutcome}
 use Rattle.x_spool.specs.declared.outcome.SpoolOutcome.TheVariants as outcome
@@ -49,11 +50,12 @@ EndsBatch o s before after = (s ≡ status_of_batch o) × (after ≡ before)
 -- what became of a batch of the party of this name, with the spool of that name. Where the two were in step they are so
 -- afterwards at every pair of images that a crash may leave, whatever came; where no batch is to be driven, or it is finished, nothing
 -- is written to either disk, whatever came; where it is done all plans stand, the party stands for the end of the batch, and the outbox
--- is written
+-- is written; and in step or not, the party goes on from where it stood
 pub record IsSpooling (party spool text : List ℕ) (entries : List Entry) (old new : List ℕ → View) (s : Status) (before after : Option (List ℕ)) : Type 0 where
   pub outcome : SpoolOutcome
   pub made : MakesBatch party text entries (old party) (old spool) (new party) (new spool) outcome
   pub in_step : StaysInStep party text entries (old party) (old spool) (new party) (new spool) outcome
+  pub onward : GoesOnward party text entries (old party) (old spool) (new party) outcome
   pub ends : EndsBatch outcome s before after
 
 -- no batch was taken: the source failed, or no memory was left, or this line is the first that no batch has

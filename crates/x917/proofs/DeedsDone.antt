@@ -10,6 +10,8 @@ use Rattle.party_state.specs.declared.command.Command.TheVariants as command
 use Rattle.party_state.specs.declared.command.Input.{Input}
 use Rattle.party_state.specs.declared.command.Input.TheVariants.{Ordered, Arrived}
 use Rattle.disk_pair.specs.Pairs.{ThirdsStay}
+use Rattle.csm_batch.specs.declared.entry.Entry.{Entry}
+use Rattle.csm_batch.specs.Batches.{IsBatch}
 use Rattle.x_party.specs.declared.outcome.Outcome.{Outcome}
 use Rattle.x_pair.specs.Dues.{IsDueTurn}
 use Rattle.x_pair.specs.Outcomes.{turning}
@@ -29,9 +31,10 @@ use Rattle.call_ends.specs.Listening.{IsHeard, taken}
 use Rattle.party_calls.specs.Ends.{Ends}
 use Rattle.party_calls.specs.Mirrored.{IsPairCall, LeavesMirrored, ObeysMirrored}
 use Rattle.party_calls.specs.Obeys.{IsPartyTurn, LeavesOthers, Obeys, OthersOf, ledger_of, party_of}
+use Rattle.party_calls.specs.Spooled.{IsSpooling, TakesBatch}
 use Rattle.party_calls.proofs.Mirrors.{idle_mirrored, left_all}
 use Rattle.party_calls.proofs.Orders.{idle, leaves_all}
-use Rattle.x917.specs.Deeds.{IsCallDeed, IsDeed, IsDeedOf, IsTendingDeed, OverOwn}
+use Rattle.x917.specs.Deeds.{IsBatchCall, IsCallDeed, IsDeed, IsDeedOf, IsTendingDeed, OverOwn}
 use Rattle.x917.proofs.NetworkEvents.{ident_given, label_given}
 
 module _ (start : World) (mirrors : List ℕ → Option (List ℕ)) (old new : List ℕ → View) (sound : (name : List ℕ) → IsSound (old name)) where
@@ -114,6 +117,30 @@ module _ (start : World) (mirrors : List ℕ → Option (List ℕ)) (old new : L
     take_two name second a heard call thirds = arrived (λ all arrival. OverOwn start mirrors name (Some second) (IsCallDeed start mirrors name (Hears (taken all) (Some arrival)) moment (10 ∷ []) old new s before after)) a
         (λ all is. turn_two (Arrived a) (Hears (taken all) (Some a)) name second (is.heard, is.text) call (record { makes = call.made; safe = call.safe }) thirds) left heard
 
+    -- a batch that is taken
+    batch_one : (name spool text : List ℕ) (entries : List Entry) → IsBatch text entries → IsSpooling name spool text entries old new s before after → ThirdsStay name spool old new
+        → (o : Option (List ℕ)) → TakesBatch o rest text
+        → IfSome o (λ all. (es : List Entry) × IsBatch all es × OverOwn start mirrors name None (IsNobodys start mirrors spool → IsBatchCall start mirrors name spool all es old new s before after))
+    batch_one name spool text entries batch spooling thirds None takes = tt
+    batch_one name spool text entries batch spooling thirds (Some all) takes = (
+      entries,
+      subst (λ (t : List ℕ). IsBatch t entries) (sym takes.0) batch,
+      λ x at own nobodys. subst (λ (t : List ℕ). IsBatchCall start mirrors name spool t entries old new s before after) (sym takes.0) (record {
+        outcome = spooling.outcome;
+        taken = record {
+          member = x;
+          at = at;
+          alone = own;
+          nobodys = nobodys;
+          made = spooling.made;
+          onward = spooling.onward;
+          tells = spooling.in_step.party_tells;
+          others = thirds;
+        };
+        ends = spooling.ends;
+      }),
+    )
+
     -- ---- over one disk
 
     module _ (is_back : List ℕ → Type 0) (unread : Type 0) (rows : List Row) where
@@ -134,7 +161,8 @@ module _ (start : World) (mirrors : List ℕ → Option (List ℕ)) (old new : L
       deed_one (order.Pay party peer name ledger amount) values obeys leaves = aside_paid party ledger obeys.safe.party (leaves.others refl)
       deed_one (order.Accept party ledger) values (inl (why, same, stay)) leaves = λ none. aside_of_all start mirrors old new sound stay
       deed_one (order.Accept party ledger) values (inr (bytes, takes, paid)) leaves = aside_paid party ledger paid.safe.party (leaves.others refl)
-      deed_one (order.Spool party spool) values obeys leaves = tt
+      deed_one (order.Spool party spool) values (inl (why, same, stay)) leaves = inl (why, same, aside_of_all start mirrors old new sound stay)
+      deed_one (order.Spool party spool) values (inr (text, entries, batch, takes, spooling)) leaves = inr (batch_one party spool text entries batch spooling (leaves.others refl) left takes)
       deed_one (order.Outbox spool) values obeys leaves = aside_untouched spool obeys.untouched (leaves.others refl)
       deed_one order.Batch values obeys leaves = aside_of_all start mirrors old new sound (leaves.others refl)
       deed_one (order.Compact party) values obeys leaves = tended_one party Compacting obeys.outcome (obeys.rewritten, obeys.safe) (leaves.others refl) obeys.ends
@@ -161,82 +189,49 @@ module _ (start : World) (mirrors : List ℕ → Option (List ℕ)) (old new : L
       -- ---- over two
 
       module _ (m : List ℕ) where
-        apart_two : (o : Order) → IsOfTwo o m → IfSome (party_of o) (λ party. ThirdsStay party m old new) → IfSome (party_of o) (IsNobodys start mirrors) → IsNobodys start mirrors m → IsAside start mirrors old new
-        apart_two (order.Init party role key v) of thirds none nor = aside_but_two start mirrors old new sound party m (inr none) (inr nor) thirds
-        apart_two (order.Create party role) of thirds none nor = aside_but_two start mirrors old new sound party m (inr none) (inr nor) thirds
-        apart_two (order.Load party peer label side pair) of thirds none nor = aside_but_two start mirrors old new sound party m (inr none) (inr nor) thirds
-        apart_two (order.Enter party peer label side) of thirds none nor = aside_but_two start mirrors old new sound party m (inr none) (inr nor) thirds
-        apart_two (order.Start party peer label) of thirds none nor = aside_but_two start mirrors old new sound party m (inr none) (inr nor) thirds
-        apart_two (order.StartKk party peer label_new label single) of thirds none nor = aside_but_two start mirrors old new sound party m (inr none) (inr nor) thirds
-        apart_two (order.Ask party peer ultimate) of thirds none nor = aside_but_two start mirrors old new sound party m (inr none) (inr nor) thirds
-        apart_two (order.Translate party peer ultimate) of thirds none nor = aside_but_two start mirrors old new sound party m (inr none) (inr nor) thirds
-        apart_two (order.Take party) of thirds none nor = aside_but_two start mirrors old new sound party m (inr none) (inr nor) thirds
-        apart_two (order.Purge party) of thirds none nor = aside_but_two start mirrors old new sound party m (inr none) (inr nor) thirds
-        apart_two (order.Show party) of thirds none nor = aside_but_two start mirrors old new sound party m (inr none) (inr nor) thirds
-        apart_two (order.Resend party peer) of thirds none nor = aside_but_two start mirrors old new sound party m (inr none) (inr nor) thirds
-        apart_two (order.Drop party peer) of thirds none nor = aside_but_two start mirrors old new sound party m (inr none) (inr nor) thirds
-        apart_two (order.End party peer name) of thirds none nor = aside_but_two start mirrors old new sound party m (inr none) (inr nor) thirds
-        apart_two order.Check of thirds none nor = absurd of
-        apart_two order.Replay of thirds none nor = absurd of
-        apart_two order.Audit of thirds none nor = absurd of
-        apart_two order.Batch of thirds none nor = absurd of
-        apart_two (order.Value party peer label side) of thirds none nor = absurd of
-        apart_two (order.Compact party) of thirds none nor = absurd of
-        apart_two (order.Migrate party) of thirds none nor = absurd of
-        apart_two (order.Wipe party) of thirds none nor = absurd of
-        apart_two (order.Compare party other) of thirds none nor = absurd of
-        apart_two (order.Pay party peer name ledger amount) of thirds none nor = absurd of
-        apart_two (order.Accept party ledger) of thirds none nor = absurd of
-        apart_two (order.Spool party spool) of thirds none nor = absurd of
-        apart_two (order.Outbox spool) of thirds none nor = absurd of
-        apart_two (order.Drill seed events) of thirds none nor = absurd of
+        -- its deed, and that over files which are nobody's no party's is written
+        with_apart : (o : Order) (party : List ℕ) → (IfSome (party_of o) (IsNobodys start mirrors) → IsNobodys start mirrors party) → ThirdsStay party m old new → IsDeedOf start mirrors o (Some m) moment s left before after old new
+            → IsDeed start mirrors o (Some m) moment s left before after old new
+        with_apart o party of_party thirds deed = record { deed = deed; apart = λ none. aside_but_two start mirrors old new sound party m (inr (of_party none.party)) (inr none.second) thirds }
 
-        deed_two : (o : Order) → HasValues rows o → IsOfTwo o m → ObeysMirrored o m moment s left rest before after old new → LeavesMirrored o m s is_back unread old new → IsDeedOf start mirrors o (Some m) moment s left before after old new
-        deed_two (order.Init party role key v) values of obeys leaves = tt
-        deed_two (order.Load party peer label side pair) values of obeys leaves = tt
-        deed_two (order.Create party role) values of obeys leaves = tt
-        deed_two (order.Enter party peer label side) values of obeys leaves = tt
-        deed_two (order.Show party) values of obeys leaves = λ x at own. record {
+        pub deed_of_two : (o : Order) → HasValues rows o → IsOfTwo o m → ObeysMirrored o m moment s left rest before after old new → LeavesMirrored o m s is_back unread old new
+            → IsDeed start mirrors o (Some m) moment s left before after old new
+        deed_of_two (order.Init party role key v) values of obeys leaves = with_apart (order.Init party role key v) party (λ is. is) leaves.others tt
+        deed_of_two (order.Load party peer label side pair) values of obeys leaves = with_apart (order.Load party peer label side pair) party (λ is. is) leaves.others tt
+        deed_of_two (order.Create party role) values of obeys leaves = with_apart (order.Create party role) party (λ is. is) leaves.others tt
+        deed_of_two (order.Enter party peer label side) values of obeys leaves = with_apart (order.Enter party peer label side) party (λ is. is) leaves.others tt
+        deed_of_two (order.Show party) values of obeys leaves = with_apart (order.Show party) party (λ is. is) leaves.others (λ x at own. record {
           member = x;
           at = at;
           second = m;
           has = own;
           safe = obeys.safe;
           others = subst (λ (n : Option (List ℕ)). AllButOwnStay n party old new) (sym own) leaves.others;
-        }
-        deed_two (order.Take party) values of (inl (unheard, same, stay)) leaves = inl (unheard, same, aside_of_all start mirrors old new sound stay)
-        deed_two (order.Take party) values of (inr (a, heard, call)) leaves = inr (take_two party m a heard call leaves.others)
-        deed_two (order.Start party peer label) values of obeys leaves = command_two (command.Start peer label) party m tt obeys leaves.others
-        deed_two (order.StartKk party peer label_new label single) values of obeys leaves =
-            command_two (command.StartKk peer label label_new single) party m (label_given (first_of (name_of opt.New) rows) label_new values.2) obeys leaves.others
-        deed_two (order.Ask party peer ultimate) values of obeys leaves = command_two (command.Ask peer ultimate) party m tt obeys leaves.others
-        deed_two (order.Translate party peer ultimate) values of obeys leaves =
-            command_two (command.Translate peer ultimate) party m (ident_given (first_of (name_of opt.Ultimate) rows) ultimate values.2) obeys leaves.others
-        deed_two (order.Resend party peer) values of obeys leaves = command_two (command.Resend peer) party m tt obeys leaves.others
-        deed_two (order.End party peer name) values of obeys leaves = command_two (command.End peer name) party m tt obeys leaves.others
-        deed_two (order.Drop party peer) values of obeys leaves = command_two (command.Drop peer) party m tt obeys leaves.others
-        deed_two (order.Purge party) values of obeys leaves = command_two command.Purge party m tt obeys leaves.others
-        deed_two order.Check values of obeys leaves = absurd of
-        deed_two order.Replay values of obeys leaves = absurd of
-        deed_two order.Audit values of obeys leaves = absurd of
-        deed_two order.Batch values of obeys leaves = absurd of
-        deed_two (order.Value party peer label side) values of obeys leaves = absurd of
-        deed_two (order.Compact party) values of obeys leaves = absurd of
-        deed_two (order.Migrate party) values of obeys leaves = absurd of
-        deed_two (order.Wipe party) values of obeys leaves = absurd of
-        deed_two (order.Compare party other) values of obeys leaves = absurd of
-        deed_two (order.Pay party peer name ledger amount) values of obeys leaves = absurd of
-        deed_two (order.Accept party ledger) values of obeys leaves = absurd of
-        deed_two (order.Spool party spool) values of obeys leaves = absurd of
-        deed_two (order.Outbox spool) values of obeys leaves = absurd of
-        deed_two (order.Drill seed events) values of obeys leaves = absurd of
-
-        pub deed_of_two : (o : Order) → HasValues rows o → IsOfTwo o m → ObeysMirrored o m moment s left rest before after old new → LeavesMirrored o m s is_back unread old new
-            → IsDeed start mirrors o (Some m) moment s left before after old new
-        deed_of_two o values of obeys leaves = record {
-          deed = deed_two o values of obeys leaves;
-          apart = λ none. apart_two o of leaves.others none.party none.second;
-        }
+        })
+        deed_of_two (order.Take party) values of (inl (unheard, same, stay)) leaves = with_apart (order.Take party) party (λ is. is) leaves.others (inl (unheard, same, aside_of_all start mirrors old new sound stay))
+        deed_of_two (order.Take party) values of (inr (a, heard, call)) leaves = with_apart (order.Take party) party (λ is. is) leaves.others (inr (take_two party m a heard call leaves.others))
+        deed_of_two (order.Start party peer label) values of obeys leaves = with_apart (order.Start party peer label) party (λ is. is) leaves.others (command_two (command.Start peer label) party m tt obeys leaves.others)
+        deed_of_two (order.StartKk party peer label_new label single) values of obeys leaves = with_apart (order.StartKk party peer label_new label single) party (λ is. is) leaves.others (command_two (command.StartKk peer label label_new single) party m (label_given (first_of (name_of opt.New) rows) label_new values.2) obeys leaves.others)
+        deed_of_two (order.Ask party peer ultimate) values of obeys leaves = with_apart (order.Ask party peer ultimate) party (λ is. is) leaves.others (command_two (command.Ask peer ultimate) party m tt obeys leaves.others)
+        deed_of_two (order.Translate party peer ultimate) values of obeys leaves = with_apart (order.Translate party peer ultimate) party (λ is. is) leaves.others (command_two (command.Translate peer ultimate) party m (ident_given (first_of (name_of opt.Ultimate) rows) ultimate values.2) obeys leaves.others)
+        deed_of_two (order.Resend party peer) values of obeys leaves = with_apart (order.Resend party peer) party (λ is. is) leaves.others (command_two (command.Resend peer) party m tt obeys leaves.others)
+        deed_of_two (order.End party peer name) values of obeys leaves = with_apart (order.End party peer name) party (λ is. is) leaves.others (command_two (command.End peer name) party m tt obeys leaves.others)
+        deed_of_two (order.Drop party peer) values of obeys leaves = with_apart (order.Drop party peer) party (λ is. is) leaves.others (command_two (command.Drop peer) party m tt obeys leaves.others)
+        deed_of_two (order.Purge party) values of obeys leaves = with_apart (order.Purge party) party (λ is. is) leaves.others (command_two command.Purge party m tt obeys leaves.others)
+        deed_of_two order.Check values of obeys leaves = absurd of
+        deed_of_two order.Replay values of obeys leaves = absurd of
+        deed_of_two order.Audit values of obeys leaves = absurd of
+        deed_of_two order.Batch values of obeys leaves = absurd of
+        deed_of_two (order.Value party peer label side) values of obeys leaves = absurd of
+        deed_of_two (order.Compact party) values of obeys leaves = absurd of
+        deed_of_two (order.Migrate party) values of obeys leaves = absurd of
+        deed_of_two (order.Wipe party) values of obeys leaves = absurd of
+        deed_of_two (order.Compare party other) values of obeys leaves = absurd of
+        deed_of_two (order.Pay party peer name ledger amount) values of obeys leaves = absurd of
+        deed_of_two (order.Accept party ledger) values of obeys leaves = absurd of
+        deed_of_two (order.Spool party spool) values of obeys leaves = absurd of
+        deed_of_two (order.Outbox spool) values of obeys leaves = absurd of
+        deed_of_two (order.Drill seed events) values of obeys leaves = absurd of
 
 -- no memory was left for the order, and nothing is done
 pub deed_idle : (start : World) (mirrors : List ℕ → Option (List ℕ)) (e : List ℕ → View) → ((name : List ℕ) → IsSound (e name)) → (moment : ℕ) (left before : Option (List ℕ)) (rows : List Row) (o : Order) → HasValues rows o

@@ -6,18 +6,22 @@ use Rattle.x_disk.specs.Disk.{View}
 use Rattle.csm_grammar.specs.declared.arrival.Arrival.{Arrival}
 use Rattle.member.specs.Member.{Member}
 use Rattle.x_party.specs.declared.outcome.Outcome.{Outcome}
+use Rattle.csm_batch.specs.declared.entry.Entry.{Entry}
+use Rattle.csm_batch.specs.Batches.{IsBatch}
+use Rattle.x_spool.specs.declared.outcome.SpoolOutcome.{SpoolOutcome}
 use Rattle.x_line.specs.declared.order.Order.{Order}
 use Rattle.x_line.specs.declared.order.Order.TheVariants as order
 use Rattle.world_laws.specs.World.{World, member_at}
 use Rattle.world_laws.specs.Events.{Action, Orders, Hears}
 use Rattle.mirror_laws.specs.Runs.{Which}
-use Rattle.mirror_laws.specs.Sessions.{Tending, Compacting, Migrating, Wiping, IsPairCalled, IsPairShown, IsAside, IsNobodys, IsTended, own_disk}
+use Rattle.mirror_laws.specs.Sessions.{Tending, Compacting, Migrating, Wiping, IsPairCalled, IsPairShown, IsAside, IsBatchTaken, IsNobodys, IsTended, own_disk}
 use Rattle.call_ends.specs.declared.party_command.PartyCommand.{PartyCommand}
 use Rattle.call_ends.specs.declared.status.Status.{Status}
 use Rattle.call_ends.specs.Commands.{command_of}
 use Rattle.call_ends.specs.Listening.{IsHeard, IsUnheard, taken}
 use Rattle.party_calls.specs.Ends.{Ends}
 use Rattle.party_calls.specs.Obeys.{is_replay, ledger_of, party_of}
+use Rattle.party_calls.specs.Spooled.{EndsBatch, IsUnbatched}
 
 -- what holds where the party of this name is one of the network, and keeps as second disk the one that is named, and none where none
 -- is named
@@ -51,8 +55,20 @@ abbrev pub IsShowDeed : World → (List ℕ → Option (List ℕ)) → List ℕ 
 IsShowDeed start mirrors name None old new = IsAside start mirrors old new
 IsShowDeed start mirrors name (Some second) old new = OverOwn start mirrors name (Some second) (IsPairShown start mirrors name old new)
 
--- which deed an order is, of a party with that second disk or with none: the set-up is in front of the deeds, a batch is many
--- events, and a scenario is a network of its own
+-- the party of this name takes a batch beside that spool, and the call ends with that outcome's status and outbox
+pub record IsBatchCall (start : World) (mirrors : List ℕ → Option (List ℕ)) (name spool text : List ℕ) (entries : List Entry) (old new : List ℕ → View) (s : Status) (before after : Option (List ℕ)) : Type 0 where
+  pub outcome : SpoolOutcome
+  pub taken : IsBatchTaken start mirrors name spool text entries outcome old new
+  pub ends : EndsBatch outcome s before after
+
+-- a batch is read of the bytes, and the party of the name takes it, if it keeps one disk and the spool is nobody's; or none is read,
+-- nothing is written out, and no disk of a party is written
+abbrev pub IsBatchDeed : World → (List ℕ → Option (List ℕ)) → List ℕ → List ℕ → Option (List ℕ) → (List ℕ → View) → (List ℕ → View) → Status → Option (List ℕ) → Option (List ℕ) → Type 0
+IsBatchDeed start mirrors name spool left old new s before after = (IsUnbatched left s × (after ≡ before) × IsAside start mirrors old new)
+    ⊎ IfSome left (λ all. (entries : List Entry) × IsBatch all entries × OverOwn start mirrors name None (IsNobodys start mirrors spool → IsBatchCall start mirrors name spool all entries old new s before after))
+
+-- which deed an order is, of a party with that second disk or with none: the set-up is in front of the deeds, and a scenario is a
+-- network of its own
 abbrev pub IsDeedOf : World → (List ℕ → Option (List ℕ)) → Order → Option (List ℕ) → ℕ → Status → Option (List ℕ) → Option (List ℕ) → Option (List ℕ) → (List ℕ → View) → (List ℕ → View) → Type 0
 IsDeedOf start mirrors order.Check mirror moment s left before after old new = IsAside start mirrors old new
 IsDeedOf start mirrors (order.Init party role key v) mirror moment s left before after old new = Unit {0}
@@ -68,7 +84,7 @@ IsDeedOf start mirrors order.Audit mirror moment s left before after old new = I
 IsDeedOf start mirrors (order.Drill seed events) mirror moment s left before after old new = IsAside start mirrors old new
 IsDeedOf start mirrors (order.Pay party peer name ledger amount) mirror moment s left before after old new = IsNobodys start mirrors ledger → IsAside start mirrors old new
 IsDeedOf start mirrors (order.Accept party ledger) mirror moment s left before after old new = IsNobodys start mirrors ledger → IsAside start mirrors old new
-IsDeedOf start mirrors (order.Spool party spool) mirror moment s left before after old new = Unit {0}
+IsDeedOf start mirrors (order.Spool party spool) mirror moment s left before after old new = IsBatchDeed start mirrors party spool left old new s before after
 IsDeedOf start mirrors (order.Outbox spool) mirror moment s left before after old new = IsAside start mirrors old new
 IsDeedOf start mirrors order.Batch mirror moment s left before after old new = IsAside start mirrors old new
 IsDeedOf start mirrors (order.Compact party) mirror moment s left before after old new = IsTendingDeed start mirrors party Compacting old new s before after

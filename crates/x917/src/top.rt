@@ -74,9 +74,10 @@ pub fn run<S: Source, K: Sink, H: Shelf>(
     ensures mirrors { (order : Order) (mirror : List ℕ) → IsMirrored words.now order mirror → LeavesMirrored order mirror result (H.is_back shelf.new) (source.new ≡ source.old) (H.entry shelf.old) (H.entry shelf.new) }
 
     // Of a network in which some parties keep one disk and others two, an order is a deed of a session, but what creates a party or
-    // loads a key, `spool` and `replay`: a command, a message or a show, where its party is one of the network and the disks that are
-    // named are just those that it keeps; a compaction, a migration or a wiping of one of them; or it writes none of them (a payment,
-    // where the ledger is none). A call but `replay` over files of which none is a party's writes none of theirs.
+    // loads a key, and `replay`: a command, a message or a show, where its party is one of the network and the disks that are named are
+    // just those that it keeps; a batch, where its party is one that keeps one disk and the spool is none of theirs; a compaction, a
+    // migration or a wiping of one of them; or it writes none of them (a payment, where the ledger is none). A call but `replay` over
+    // files of which none is a party's writes none of theirs.
     ensures deeds { (order : Order) (mirror : Option (List ℕ)) → IsGiven words.now order mirror → (start : World) (mirrors : List ℕ → Option (List ℕ))
         → IsDeed start mirrors order mirror moment result (S.left source.old) (K.written sink.old) (K.written sink.new) (H.entry shelf.old) (H.entry shelf.new) }
 

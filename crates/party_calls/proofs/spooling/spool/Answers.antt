@@ -40,7 +40,7 @@ returns g c =
     let disk = g.H.Shelf.faults c.args.shelf.now in
     let disks = g.H.Shelf.faults c.spool-outcome.new.shelf in
     record {
-      batched = inr (text, entries, c.in-Ok.ensures.batch, c.in-Ok.ensures.takes, record { outcome = o; made = r.made; in_step = r.in_step; ends = f.ends });
+      batched = inr (text, entries, c.in-Ok.ensures.batch, c.in-Ok.ensures.takes, record { outcome = o; made = r.made; in_step = r.in_step; onward = r.onward; ends = f.ends });
       follows = λ read_quiet put_quiet disk_quiet. batch_follows_all o s before after put puts disk disks f.ends f.output.fault r.shelf.fault put_quiet disk_quiet c.law_one_reading.ensures
           left rest party spool text entries old new c.in-Ok.ensures.batch c.in-Ok.ensures.takes r.in_step r.due;
       rest = batch_rest o s before after put puts disk disks f.ends f.output.fault party spool (g.H.Shelf.is_back c.spool-outcome.new.shelf) (c.finish_batch.new.sink ≡ c.args.sink.now) old new
