@@ -49,74 +49,48 @@ finished_of_two o party mirror s is_back unread old new outcome ending before af
   cause = λ read reads. cause_ended read reads put puts disk disks outcome ending s before after ends put_cause (disk_fault outcome ending s before after put puts disk disks ends put_cause shelf.fault);
 }
 
-module _ (t : PartyCommand) (mirror : List ℕ) (moment : ℕ) (s : Status) (left rest before after : Option (List ℕ)) (old new : List ℕ → View) where
-  obeys_some : (x : Option PartyCommand) → x ≡ Some t → IsPairCall (turning t.party (Ordered t.command) moment) (IsDueTurn t.party (Ordered t.command) moment) (10 ∷ []) t.party mirror old new s before after → ObeysMirroredCommand x mirror moment old new s before after
-  obeys_some x is call = subst (λ (y : Option PartyCommand). ObeysMirroredCommand y mirror moment old new s before after) (sym is) call
+module _ (t : PartyCommand) (mirror : List ℕ) where
+  -- the turn with this command is what the order does
+  abbrev pub DoesCommand : Order → Option PartyCommand → Type 0
+  DoesCommand o x = (moment : ℕ) (s : Status) (left rest before after : Option (List ℕ)) (old new : List ℕ → View) → ObeysMirroredCommand x mirror moment old new s before after → ObeysMirrored o mirror moment s left rest before after old new
 
-  pub obeys_mirrored : (o : Order) → IsOfTwo o mirror → command_of o ≡ Some t → IsPairCall (turning t.party (Ordered t.command) moment) (IsDueTurn t.party (Ordered t.command) moment) (10 ∷ []) t.party mirror old new s before after
-      → ObeysMirrored o mirror moment s left rest before after old new
-  obeys_mirrored (order.Init party role key v) of is call = absurd cc
-  obeys_mirrored (order.Show party) of is call = absurd cc
-  obeys_mirrored (order.Create party role) of is call = absurd cc
-  obeys_mirrored (order.Enter party peer label side) of is call = absurd cc
-  obeys_mirrored (order.Value party peer label side) of is call = absurd of
-  obeys_mirrored (order.Spool party spool) of is call = absurd of
-  obeys_mirrored (order.Outbox spool) of is call = absurd of
-  obeys_mirrored order.Batch of is call = absurd of
-  obeys_mirrored (order.Take party) of is call = absurd cc
-  obeys_mirrored (order.Load party peer label side pair) of is call = obeys_some (command_of (order.Load party peer label side pair)) is call
-  obeys_mirrored (order.Start party peer label) of is call = obeys_some (command_of (order.Start party peer label)) is call
-  obeys_mirrored (order.StartKk party peer new label single) of is call = obeys_some (command_of (order.StartKk party peer new label single)) is call
-  obeys_mirrored (order.Ask party peer ultimate) of is call = obeys_some (command_of (order.Ask party peer ultimate)) is call
-  obeys_mirrored (order.Translate party peer ultimate) of is call = obeys_some (command_of (order.Translate party peer ultimate)) is call
-  obeys_mirrored (order.Resend party peer) of is call = obeys_some (command_of (order.Resend party peer)) is call
-  obeys_mirrored (order.End party peer name) of is call = obeys_some (command_of (order.End party peer name)) is call
-  obeys_mirrored (order.Drop party peer) of is call = obeys_some (command_of (order.Drop party peer)) is call
-  obeys_mirrored (order.Purge party) of is call = obeys_some (command_of (order.Purge party)) is call
-  obeys_mirrored order.Check of is call = absurd of
-  obeys_mirrored order.Replay of is call = absurd of
-  obeys_mirrored order.Audit of is call = absurd of
-  obeys_mirrored (order.Compact party) of is call = absurd of
-  obeys_mirrored (order.Migrate party) of is call = absurd of
-  obeys_mirrored (order.Wipe party) of is call = absurd of
-  obeys_mirrored (order.Compare party other) of is call = absurd of
-  obeys_mirrored (order.Pay party peer name ledger amount) of is call = absurd of
-  obeys_mirrored (order.Accept party ledger) of is call = absurd of
-  obeys_mirrored (order.Drill seed events) of is call = absurd of
+  -- an order of two disks is this command of a party, which isn't the second disk
+  pub record IsCommandOfTwo (o : Order) : Type 0 where
+    pub apart : t.party ≢ mirror
+    pub obeys : DoesCommand o (Some t)
 
--- the party of a command isn't the second disk
-apart_some : (o : Order) (mirror : List ℕ) (t : PartyCommand) (x : PartyCommand) → command_of o ≡ Some x → command_of o ≡ Some t → x.party ≢ mirror → t.party ≢ mirror
-apart_some o mirror t x first second apart = let same : Some x ≡ Some t = sym first ∙ second in let one : x ≡ t = cc in subst (λ (y : PartyCommand). y.party ≢ mirror) one apart
+  by_some : (o : Order) (x : PartyCommand) → Some x ≡ Some t → x.party ≢ mirror → DoesCommand o (Some x) → IsCommandOfTwo o
+  by_some o x is apart obeys = record { apart = (let same : x ≡ t = cc is in subst (λ (y : PartyCommand). y.party ≢ mirror) same apart); obeys = subst (DoesCommand o) is obeys }
 
-pub apart_of : (o : Order) (mirror : List ℕ) (t : PartyCommand) → IsOfTwo o mirror → command_of o ≡ Some t → t.party ≢ mirror
-apart_of (order.Init party role key v) mirror t of is = absurd cc
-apart_of (order.Show party) mirror t of is = absurd cc
-apart_of (order.Create party role) mirror t of is = absurd cc
-apart_of (order.Enter party peer label side) mirror t of is = absurd cc
-apart_of (order.Value party peer label side) mirror t of is = absurd of
-apart_of (order.Spool party spool) mirror t of is = absurd of
-apart_of (order.Outbox spool) mirror t of is = absurd of
-apart_of order.Batch mirror t of is = absurd of
-apart_of (order.Take party) mirror t of is = absurd cc
-apart_of (order.Load party peer label side pair) mirror t of is = apart_some (order.Load party peer label side pair) mirror t _ refl is of
-apart_of (order.Start party peer label) mirror t of is = apart_some (order.Start party peer label) mirror t _ refl is of
-apart_of (order.StartKk party peer new label single) mirror t of is = apart_some (order.StartKk party peer new label single) mirror t _ refl is of
-apart_of (order.Ask party peer ultimate) mirror t of is = apart_some (order.Ask party peer ultimate) mirror t _ refl is of
-apart_of (order.Translate party peer ultimate) mirror t of is = apart_some (order.Translate party peer ultimate) mirror t _ refl is of
-apart_of (order.Resend party peer) mirror t of is = apart_some (order.Resend party peer) mirror t _ refl is of
-apart_of (order.End party peer name) mirror t of is = apart_some (order.End party peer name) mirror t _ refl is of
-apart_of (order.Drop party peer) mirror t of is = apart_some (order.Drop party peer) mirror t _ refl is of
-apart_of (order.Purge party) mirror t of is = apart_some (order.Purge party) mirror t _ refl is of
-apart_of order.Check mirror t of is = absurd of
-apart_of order.Replay mirror t of is = absurd of
-apart_of order.Audit mirror t of is = absurd of
-apart_of (order.Compact party) mirror t of is = absurd of
-apart_of (order.Migrate party) mirror t of is = absurd of
-apart_of (order.Wipe party) mirror t of is = absurd of
-apart_of (order.Compare party other) mirror t of is = absurd of
-apart_of (order.Pay party peer name ledger amount) mirror t of is = absurd of
-apart_of (order.Accept party ledger) mirror t of is = absurd of
-apart_of (order.Drill seed events) mirror t of is = absurd of
+  pub command_of_two : (o : Order) → IsOfTwo o mirror → command_of o ≡ Some t → IsCommandOfTwo o
+  command_of_two (order.Init party role key v) of is = absurd cc
+  command_of_two (order.Show party) of is = absurd cc
+  command_of_two (order.Create party role) of is = absurd cc
+  command_of_two (order.Enter party peer label side) of is = absurd cc
+  command_of_two (order.Value party peer label side) of is = absurd of
+  command_of_two (order.Spool party spool) of is = absurd of
+  command_of_two (order.Outbox spool) of is = absurd of
+  command_of_two order.Batch of is = absurd of
+  command_of_two (order.Take party) of is = absurd cc
+  command_of_two (order.Load party peer label side pair) of is = by_some (order.Load party peer label side pair) _ is of (λ moment s left rest before after old new call. call)
+  command_of_two (order.Start party peer label) of is = by_some (order.Start party peer label) _ is of (λ moment s left rest before after old new call. call)
+  command_of_two (order.StartKk party peer new label single) of is = by_some (order.StartKk party peer new label single) _ is of (λ moment s left rest before after old new call. call)
+  command_of_two (order.Ask party peer ultimate) of is = by_some (order.Ask party peer ultimate) _ is of (λ moment s left rest before after old new call. call)
+  command_of_two (order.Translate party peer ultimate) of is = by_some (order.Translate party peer ultimate) _ is of (λ moment s left rest before after old new call. call)
+  command_of_two (order.Resend party peer) of is = by_some (order.Resend party peer) _ is of (λ moment s left rest before after old new call. call)
+  command_of_two (order.End party peer name) of is = by_some (order.End party peer name) _ is of (λ moment s left rest before after old new call. call)
+  command_of_two (order.Drop party peer) of is = by_some (order.Drop party peer) _ is of (λ moment s left rest before after old new call. call)
+  command_of_two (order.Purge party) of is = by_some (order.Purge party) _ is of (λ moment s left rest before after old new call. call)
+  command_of_two order.Check of is = absurd of
+  command_of_two order.Replay of is = absurd of
+  command_of_two order.Audit of is = absurd of
+  command_of_two (order.Compact party) of is = absurd of
+  command_of_two (order.Migrate party) of is = absurd of
+  command_of_two (order.Wipe party) of is = absurd of
+  command_of_two (order.Compare party other) of is = absurd of
+  command_of_two (order.Pay party peer name ledger amount) of is = absurd of
+  command_of_two (order.Accept party ledger) of is = absurd of
+  command_of_two (order.Drill seed events) of is = absurd of
 
 -- an order of two disks that neither creates nor shows nor takes a message is a command
 pub commands_of_two : (o : Order) (mirror : List ℕ) → IsOfTwo o mirror → ((party : List ℕ) (role : Role) (key : Pair) (v : ℕ) → o ≡ order.Init party role key v → ⊥) → ((party : List ℕ) → o ≡ order.Show party → ⊥) → ((party : List ℕ) → o ≡ order.Take party → ⊥)

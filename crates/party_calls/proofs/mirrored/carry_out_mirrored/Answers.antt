@@ -7,7 +7,7 @@ use Rattle.party_calls.specs.Mirrored.{LeavesMirrored, ObeysMirrored}
 use Rattle.party_calls.specs.Notice.{LeavesMirroredNotice}
 use Rattle.call_ends.specs.Commands.{command_of}
 use Rattle.party_calls.specs.Obeys.{most_of, party_of}
-use Rattle.party_calls.proofs.Mirrors.{apart_of, commands_of_two, finished_of_two}
+use Rattle.party_calls.proofs.Mirrors.{command_of_two, commands_of_two, finished_of_two}
 use Rattle.party_calls.proofs.Noticing.{none_left_of_two}
 use Rattle.party_calls.proofs.Orders.{took_nothing}
 use Rattle.party_calls.proofs.mirrored.carry_out_mirrored.Goals as goal
@@ -26,7 +26,7 @@ command_mirrored-requires g c =
     let i = c.in-Some.is in
     let e = c.command_of.ensures in
     let is : command_of c.args.order ≡ Some c.in-Some.given = cc in
-    apart_of c.args.order c.args.mirror.now c.in-Some.given c.requires is
+    (command_of_two c.in-Some.given c.args.mirror.now c.args.order c.requires is).apart
 
 pub returns-in-Init : goal.returns-in-Init
 returns-in-Init g c =
