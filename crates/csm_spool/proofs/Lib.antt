@@ -2,6 +2,7 @@ mod Steps
 mod Images
 mod Carried
 mod Runs
+mod Onwards
 mod Whole
 mod PlanEdits
 mod LastPlans

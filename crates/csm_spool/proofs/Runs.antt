@@ -1,5 +1,5 @@
 -- The rest of a batch, from a party that is behind the plans that stand.
-use Rattle.std.proofs.Common.{◌≡◌, inl, inr, ℕ, ◌<◌, ◌≤◌, List, [], ◌∷◌, ◌++◌, length, refl, sym, ap, subst, ◌∙◌, arith, append-nil, append_assoc}
+use Rattle.std.proofs.Common.{◌≡◌, inl, inr, ℕ, zero, suc, ◌+◌, ◌<◌, ◌≤◌, List, [], ◌∷◌, ◌++◌, length, drop, slice_get, Some, refl, sym, ap, subst, ◌∙◌, arith, append-nil, append_assoc, length-append}
 use Rattle.x_base.specs.Edge.{Rose}
 use Rattle.x_disk.specs.Disk.{View, Tells}
 use Rattle.x_disk.specs.declared.disk.DiskErr.{DiskErr}
@@ -15,6 +15,7 @@ use Rattle.csm_spool.specs.Courses.{EntriesLead}
 use Rattle.csm_spool.specs.InStep.{InStep}
 use Rattle.spool_store.specs.Committing.{HoldsEither}
 use Rattle.csm_spool.specs.Drives.{KeepsBoth, IsRun}
+use Rattle.csm_spool.specs.Going.{open_entries, IsLeftRunning, RunsAnyhow}
 use Rattle.spool_store.specs.Spools.{Spooled, IsSpool}
 use Rattle.csm_spool.specs.Stepping.{IsNext, IsOn, IsNodeCut, IsSpoolCut}
 use Rattle.csm_spool.proofs.Steps.{course_on, commit, carried, at_rest}
@@ -36,18 +37,26 @@ keeps_on p s p1 s1 p2 s2 a b = record {
 pub cause_on : (v0 v1 v2 : View) (cause : DiskErr) → v0.faults ≤ v1.faults → FaultsRose v1 v2 cause → FaultsRose v0 v2 cause
 cause_on v0 v1 v2 cause le rose = record { later = omega (arith, le, rose.later); fault = λ is. rose_later v0.faults v1.faults v2.faults le (rose.fault is) }
 
+-- an entry behind the first ones
+behind : (entries : List Entry) (k n m : ℕ) (e : Entry) → m ≡ k + n → slice_get entries m ≡ Some e → slice_get (drop k entries) n ≡ Some e
+behind entries zero n m e is at = let same : m ≡ n = omega (arith, is) in subst (λ (i : ℕ). slice_get entries i ≡ Some e) same at
+behind [] (suc k) n m e is at = absurd (cc at)
+behind (f ∷ entries) (suc k) n zero e is at = absurd (omega (arith, is))
+behind (f ∷ entries) (suc k) n (suc m) e is at = behind entries k n m e (omega (arith, is)) at
+
 module _ {D E : Type 0} (told : D → View) (told_spool : E → View) (first : Stored D) (old : Spooled E) where
   -- some entries are done
   pub record IsRunning (node : Stored D) (spool : Spooled E) : Type 0 where
     pub text : spool.progress.text ≡ old.progress.text
     pub entries : spool.progress.entries ≡ old.progress.entries
-    pub front : (more : List EntryPlan) × (spool.progress.plans ≡ old.progress.plans ++ more)
+    -- the plans that stood are in front, and the entries behind them lead by the others from the party that came
+    pub onward : (more : List EntryPlan) × (spool.progress.plans ≡ old.progress.plans ++ more) × EntriesLead (member_of first) (open_entries old.progress) more (member_of node)
     pub course : (x : Member) → EntriesLead x old.progress.entries old.progress.plans (member_of first) → EntriesLead x old.progress.entries spool.progress.plans (member_of node)
     pub keeps : KeepsBoth (told first.disk) (told_spool old.disk) (told node.disk) (told_spool spool.disk)
     pub over : length old.progress.entries ≤ length old.progress.plans → (node ≡ first) × (spool ≡ old)
 
   pub begun : IsRunning first old
-  begun = record { text = refl; entries = refl; front = ([], sym (append-nil old.progress.plans)); course = λ x c. c; keeps = record { party_faults = omega arith; spool_faults = omega arith; party_tells = refl; spool_tells = refl }; over = λ all. (refl, refl) }
+  begun = record { text = refl; entries = refl; onward = ([], sym (append-nil old.progress.plans), refl); course = λ x c. c; keeps = record { party_faults = omega arith; spool_faults = omega arith; party_tells = refl; spool_tells = refl }; over = λ all. (refl, refl) }
 
   module _ (node : Stored D) (spool : Spooled E) (run : IsRunning node spool) where
     -- the progress, of the batch as it was
@@ -69,6 +78,14 @@ module _ {D E : Type 0} (told : D → View) (told_spool : E → View) (first : S
         let more : length spool.progress.plans < length spool.progress.entries = within spool.progress next.entry next.at in
         omega (arith, all, more, ap (λ (s : Spooled E). length s.progress.plans) same, ap (λ (s : Spooled E). length s.progress.entries) same)
 
+    -- the entries behind the plans that stood lead on by the next plan
+    leads_on : (there : Member) (plan : EntryPlan) → IsNext spool.progress (member_of node) plan there → EntriesLead (member_of first) (open_entries old.progress) (run.onward.0 ++ plan ∷ []) there
+    leads_on there plan next =
+        let n = next_now (member_of node) there plan next in
+        let count : length spool.progress.plans ≡ length old.progress.plans + length run.onward.0 = ap (λ (l : List EntryPlan). length l) run.onward.1 ∙ length-append old.progress.plans run.onward.0 in
+        let at = behind old.progress.entries (length old.progress.plans) (length run.onward.0) (length spool.progress.plans) n.entry count n.at in
+        course_on (member_of first) (open_entries old.progress) run.onward.0 (member_of node) there n.entry plan run.onward.2 at n.leads
+
     still : (after : Stored D) (new : Spooled E) → after ≡ node → new ≡ spool → length old.progress.entries ≤ length old.progress.plans → (after.disk ≡ first.disk) × (new.disk ≡ old.disk)
     still after new same also all = (ap (λ (n : Stored D). n.disk) (same ∙ (run.over all).0), ap (λ (s : Spooled E). s.disk) (also ∙ (run.over all).1))
 
@@ -76,10 +93,11 @@ module _ {D E : Type 0} (told : D → View) (told_spool : E → View) (first : S
     on after new h keeps = record {
       text = ap (λ (p : Progress). p.text) h.goes ∙ run.text;
       entries = ap (λ (p : Progress). p.entries) h.goes ∙ run.entries;
-      front = (
-        run.front.0 ++ h.plan ∷ [],
+      onward = (
+        run.onward.0 ++ h.plan ∷ [],
         ap (λ (p : Progress). p.plans) h.goes
-            ∙ (ap (λ (l : List EntryPlan). l ++ h.plan ∷ []) run.front.1 ∙ append_assoc old.progress.plans run.front.0 (h.plan ∷ [])),
+            ∙ (ap (λ (l : List EntryPlan). l ++ h.plan ∷ []) run.onward.1 ∙ append_assoc old.progress.plans run.onward.0 (h.plan ∷ [])),
+        leads_on (member_of after) h.plan h.next,
       );
       course = λ x c.
           let n = next_now (member_of node) (member_of after) h.plan h.next in
@@ -100,7 +118,7 @@ module _ {D E : Type 0} (told : D → View) (told_spool : E → View) (first : S
     pub ends : IsStore (told node.disk) node.gate node.end node.format node.party → IsSpool (told_spool spool.disk) spool.gate spool.end spool.progress → length spool.progress.entries ≤ length spool.progress.plans
         → IsRun told told_spool first old (drive.Done node spool)
     ends store kept over = record {
-      answer = record { text = run.text; entries = run.entries; plans = omega (arith, kept.progress.few, over); front = run.front };
+      answer = record { text = run.text; entries = run.entries; plans = omega (arith, kept.progress.few, over); front = (run.onward.0, run.onward.1) };
       ends = λ x c. run.course x c;
       in_step = λ x c party_tells spool_tells. resting node spool refl refl store kept (run.keeps.party_tells ∙ party_tells) (run.keeps.spool_tells ∙ spool_tells) x c;
       keeps = run.keeps;
@@ -148,3 +166,37 @@ module _ {D E : Type 0} (told : D → View) (told_spool : E → View) (first : S
           keeps = all;
           rests = λ whole. absurd (no_next whole (member_of node) h.there h.plan h.next);
         }
+
+    -- whoever commanded the party before
+
+    -- an image of the party that stands
+    left_at : (after : Stored D) → member_of after ≡ member_of node → IsStore (told after.disk) after.gate after.end after.format after.party → Tells (told after.disk) → (c : List ℕ) → (told after.disk).may_leave c → IsLeftRunning (member_of first) old.progress c
+    left_at after same store tells c at = record {
+      member = member_of node;
+      more = run.onward.0;
+      course = run.onward.2;
+      stands = subst (λ (m : Member). IsImageOf m c) same (party_images told after store tells c at);
+    }
+
+    pub ends_anyhow : IsStore (told node.disk) node.gate node.end node.format node.party → RunsAnyhow told first old (drive.Done node spool)
+    ends_anyhow store = record {
+      through = record { more = run.onward.0; split = run.onward.1; course = run.onward.2 };
+      left = λ tells c at. left_at node refl store (run.keeps.party_tells ∙ tells) c at;
+    }
+
+    pub halted_anyhow : (after : Stored D) (new : Spooled E) → after ≡ node → IsStore (told after.disk) after.gate after.end after.format after.party
+        → KeepsBoth (told node.disk) (told_spool spool.disk) (told after.disk) (told_spool new.disk) → RunsAnyhow told first old (drive.NoMemory after new)
+    halted_anyhow after new same store keeps = record { through = tt; left = λ tells c at. left_at after (ap member_of same) store (keeps.party_tells ∙ (run.keeps.party_tells ∙ tells)) c at }
+
+    pub node_broken_anyhow : (broken : Failed D) (new : Spooled E) → IsNodeCut told node spool broken new → RunsAnyhow told first old (drive.NodeBroken broken new)
+    node_broken_anyhow broken new h = record {
+      through = tt;
+      left = λ tells c at. elim (h.leaves (run.keeps.party_tells ∙ tells) c at) [
+        | inl before ↦ record { member = member_of node; more = run.onward.0; course = run.onward.2; stands = before }
+        | inr there ↦ record { member = h.there; more = run.onward.0 ++ h.plan ∷ []; course = leads_on h.there h.plan h.next; stands = there }
+      ];
+    }
+
+    pub spool_broken_anyhow : (after : Stored D) (broken : Failed E) → IsSpoolCut told_spool node spool after broken → IsStore (told after.disk) after.gate after.end after.format after.party
+        → KeepsBoth (told node.disk) (told_spool spool.disk) (told after.disk) (told_spool broken.disk) → RunsAnyhow told first old (drive.SpoolBroken after broken)
+    spool_broken_anyhow after broken h store keeps = record { through = tt; left = λ tells c at. left_at after (ap member_of h.same) store (keeps.party_tells ∙ (run.keeps.party_tells ∙ tells)) c at }

@@ -1,5 +1,6 @@
 // A batch is driven to its end.
 ghost use Rattle.csm_spool.specs.Drives.{IsDrive, IsRun};
+ghost use Rattle.csm_spool.specs.Going.{GoesAnyhow, RunsAnyhow};
 
 use crate::catching::{Caught, catch_up};
 use crate::laws::law_catching_up;
@@ -14,7 +15,8 @@ use x_disk::Disk;
 
 /// From a party that is behind the plans that stand to the end of the batch.
 fn run_on<D: Disk, E: Disk>(alloc: Global, node: Node<D>, spool: Spool<E>) -> Driven<D, E>
-    ensures { IsRun D.told E.told node spool result }
+    ensures run { IsRun D.told E.told node spool result }
+    ensures anyhow { RunsAnyhow D.told node spool result }
 {
     let mut node = node;
     let mut spool = spool;
@@ -48,9 +50,12 @@ fn run_on<D: Disk, E: Disk>(alloc: Global, node: Node<D>, spool: Spool<E>) -> Dr
 }
 
 /// Takes up the last plan again where it isn't carried out, and then plans and carries out entry by entry to the end of the
-/// batch. The plan of an entry is on the spool's disk before the party's disk is written.
+/// batch. The plan of an entry is on the spool's disk before the party's disk is written. Whoever commanded the party before: a
+/// batch that is done went on from where the party stood, and whatever came, each image that a crash may leave of the party's
+/// disk stands for the party as it was, or as it went on so.
 pub fn drive<D: Disk, E: Disk>(alloc: Global, node: Node<D>, spool: Spool<E>) -> Driven<D, E>
-    ensures { IsDrive D.told E.told node spool result }
+    ensures drive { IsDrive D.told E.told node spool result }
+    ensures anyhow { GoesAnyhow D.told node spool result }
 {
     law_one_finding();
     journal_state::law_one_finding::<Contents>();

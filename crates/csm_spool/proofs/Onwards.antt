@@ -1,0 +1,63 @@
+-- A batch goes on from where its party stands, whoever commanded that before.
+use Rattle.std.proofs.Common.{◌≡◌, inl, inr, ℕ, List, [], refl, subst, ◌∙◌}
+use Rattle.x_disk.specs.Disk.{View, Tells}
+use Rattle.key_journal.specs.States.{Failed}
+use Rattle.key_store.specs.Store.{Stored, IsStore}
+use Rattle.member.specs.Member.{Member}
+use Rattle.node_core.specs.Turns.{member_of}
+use Rattle.spool_store.specs.declared.entry_plan.EntryPlan.{EntryPlan}
+use Rattle.spool_store.specs.Spools.{Spooled}
+use Rattle.csm_spool.specs.declared.outcome.Driven.{Driven}
+use Rattle.csm_spool.specs.declared.outcome.Driven.TheVariants as drive
+use Rattle.csm_spool.specs.declared.catching.Caught.TheVariants as caught
+use Rattle.csm_spool.specs.Courses.{EntriesLead}
+use Rattle.csm_spool.specs.Catching.{CatchesUp, IsCatching}
+use Rattle.csm_spool.specs.Going.{open_entries, GoesOn, GoesThrough, IsLeftGoing, GoesAnyhow, RunsThrough, RunsAnyhow}
+use Rattle.csm_spool.proofs.Images.{party_images}
+
+module _ {D E : Type 0} (told : D → View) (told_spool : E → View) (node : Stored D) (old : Spooled E) where
+  -- the last plan is settled, or taken up, and the party runs on from there
+  module _ (after : Stored D) (catches : CatchesUp (member_of node) (member_of after) old.progress) where
+    goes_on : (more : List EntryPlan) (y : Member) → EntriesLead (member_of after) (open_entries old.progress) more y → GoesOn (member_of node) old.progress more y
+    goes_on more y course = record { there = member_of after; caught_up = catches; course = course }
+
+    through : (result : Driven D E) → RunsThrough (member_of after) old.progress result → GoesThrough (member_of node) old.progress result
+    through (drive.Done n s) r = record { more = r.more; split = r.split; goes = goes_on r.more (member_of n) r.course }
+    through (drive.OutOfStep n s e) r = tt
+    through (drive.NodeBroken b s) r = tt
+    through (drive.SpoolBroken n b) r = tt
+    through (drive.NoMemory n s) r = tt
+
+    run_from : (Tells (told node.disk) → Tells (told after.disk)) → (result : Driven D E) → RunsAnyhow told after old result → GoesAnyhow told node old result
+    run_from tells_on result run = record {
+      through = through result run.through;
+      left = λ tells c at.
+          let is = run.left (tells_on tells) c at in
+          record { member = is.member; way = inr (is.more, goes_on is.more is.member is.course); stands = is.stands };
+    }
+
+  pub behind : (after : Stored D) (new : Spooled E) → IsCatching told told_spool node old (caught.Behind after new) → (result : Driven D E) → RunsAnyhow told after new result → GoesAnyhow told node old result
+  behind after new c result run = run_from after c.answer.0 (λ tells. c.keeps.party_tells ∙ tells) result (subst (λ (s : Spooled E). RunsAnyhow told after s result) c.answer.1 run)
+
+  -- the party is as it was
+  still : IsStore (told node.disk) node.gate node.end node.format node.party → (after : Stored D) → after ≡ node → Tells (told node.disk) → (c : List ℕ) → (told after.disk).may_leave c → IsLeftGoing (member_of node) old.progress c
+  still store after same tells c at = record {
+    member = member_of node;
+    way = inl refl;
+    stands = party_images told node store tells c (subst (λ (n : Stored D). (told n.disk).may_leave c) same at);
+  }
+
+  pub out : IsStore (told node.disk) node.gate node.end node.format node.party → (after : Stored D) (new : Spooled E) (entry : ℕ) → IsCatching told told_spool node old (caught.OutOfStep after new) → GoesAnyhow told node old (drive.OutOfStep after new entry)
+  out store after new entry c = record { through = tt; left = still store after c.answer.1 }
+
+  pub halted : IsStore (told node.disk) node.gate node.end node.format node.party → (after : Stored D) (new : Spooled E) → IsCatching told told_spool node old (caught.NoMemory after new) → GoesAnyhow told node old (drive.NoMemory after new)
+  halted store after new c = record { through = tt; left = still store after c.answer.0 }
+
+  pub broken : (b : Failed D) (new : Spooled E) → IsCatching told told_spool node old (caught.NodeBroken b new) → GoesAnyhow told node old (drive.NodeBroken b new)
+  broken b new c = let cut = c.answer.0 in record {
+    through = tt;
+    left = λ tells i at. elim (cut.leaves tells i at) [
+      | inl before ↦ record { member = member_of node; way = inl refl; stands = before }
+      | inr there ↦ record { member = cut.there; way = inr ([], record { there = cut.there; caught_up = inr cut.takes; course = refl }); stands = there }
+    ];
+  }
