@@ -16,10 +16,12 @@ use Rattle.disk_pair.specs.declared.disks.Disks.{Disks}
 use Rattle.x_disk.proofs.Alike.{untouched_self, untouched_then}
 use Rattle.disk_pair.proofs.Around.{rose_from}
 use Rattle.x_spool.specs.Dues.{IsDueBatch}
+use Rattle.x_spool.specs.Onward.{AnswersWhole}
 use Rattle.x_spool.specs.Outcomes.{AreUntouched, BothStay, IsDoneOrFailed, IsNoFailure, IsSafeBatch, LeavesBatch}
 use Rattle.x_spool.specs.Steps.{HasActed, outcome_of_why, two_disks}
 use Rattle.x_spool.specs.declared.outcome.SpoolOutcome.{SpoolOutcome}
 use Rattle.x_spool.specs.declared.outcome.SpoolOutcome.TheVariants as outcome
+use Rattle.x_spool.proofs.Onwards as onward
 use Rattle.x_spool.proofs.Standing.{stands_of}
 
 -- the party's disk was opened
@@ -77,6 +79,7 @@ module _ {D : Type 0} (told : D → View) (name text : List ℕ) (entries : List
       party_tells = did.in_step.party_tells ∙ ap is_some opened.untouched.now;
       spool_tells = did.in_step.spool_tells;
     };
+    onward = onward.before name text entries (told old.first) (told old.second) (told node.disk) (told old.second) (told new.first) opened.untouched.now refl opened.untouched.images o did.onward;
     first_faults = omega (arith, opened.faults, did.first_faults);
     second_faults = did.second_faults;
     fault = λ is. elim (did.fault is) [ inl rose ↦ inl (rose_from (told old.first).faults (told node.disk).faults (told new.first).faults opened.faults rose) | inr rose ↦ inr rose ];
@@ -126,6 +129,14 @@ module _ {D : Type 0} (told : D → View) (sound : (d : D) → IsSound (told d))
   failed (why.Unmade cause.Fault) p is own = tt
   failed (why.Unmade cause.NoMemory) p is own = tt
 
+  undone : (w : WhyNotOpened) (x : Member) → AnswersWhole text entries (told old.second) (told new) x (outcome_of_why name w)
+  undone (why.OtherParty found) x = tt
+  undone (why.Unmade cause.Blank) x = tt
+  undone (why.Unmade cause.NotEmpty) x = tt
+  undone (why.Unmade (cause.Damaged place)) x = tt
+  undone (why.Unmade cause.Fault) x = tt
+  undone (why.Unmade cause.NoMemory) x = tt
+
   pub nobody : (o : SpoolOutcome) → o ≡ outcome_of_why name w → HasActed name text entries told old (two_disks new old.second) o
   nobody o same = subst (HasActed name text entries told old (two_disks new old.second)) (sym same) (record {
     made = record { due = due w none.reason; left = left w };
@@ -136,6 +147,7 @@ module _ {D : Type 0} (told : D → View) (sound : (d : D) → IsSound (told d))
       party_tells = ap is_some none.untouched.now;
       spool_tells = refl;
     };
+    onward = onward.rests name text entries (told old.first) (told old.second) (told new) (outcome_of_why name w) (undone w) none.untouched.images;
     first_faults = none.faults;
     second_faults = omega arith;
     fault = λ is. inl (shows w none.reason is);

@@ -1,5 +1,6 @@
 mod Standing
 mod Single
+mod Onwards
 mod Beside
 mod Front
 mod Around

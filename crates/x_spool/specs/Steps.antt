@@ -19,6 +19,7 @@ use Rattle.csm_spool.specs.declared.outcome.Driven.{Driven}
 use Rattle.csm_spool.specs.declared.outcome.Driven.TheVariants as drive
 use Rattle.csm_spool.specs.Drives.{party_disk, spool_disk}
 use Rattle.disk_pair.specs.declared.disks.Disks.{Disks}
+use Rattle.x_spool.specs.Onward.{GoesOnward}
 use Rattle.x_spool.specs.Outcomes.{MakesBatch, StaysInStep}
 use Rattle.x_spool.specs.declared.outcome.SpoolOutcome.{SpoolOutcome}
 use Rattle.x_spool.specs.declared.outcome.SpoolOutcome.TheVariants as outcome
@@ -49,6 +50,7 @@ outcome_of_spool spool.OtherBatch = outcome.OtherBatch
 pub record HasActed {D : Type 0} (name text : List ℕ) (entries : List Entry) (told : D → View) (old new : Disks D) (o : SpoolOutcome) : Type 0 where
   pub made : MakesBatch name text entries (told old.first) (told old.second) (told new.first) (told new.second) o
   pub in_step : StaysInStep name text entries (told old.first) (told old.second) (told new.first) (told new.second) o
+  pub onward : GoesOnward name text entries (told old.first) (told old.second) (told new.first) o
   pub first_faults : (told old.first).faults ≤ (told new.first).faults
   pub second_faults : (told old.second).faults ≤ (told new.second).faults
   pub fault : o ≡ outcome.Fault → Rose (told old.first).faults (told new.first).faults ⊎ Rose (told old.second).faults (told new.second).faults

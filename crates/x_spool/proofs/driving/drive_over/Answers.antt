@@ -6,7 +6,7 @@ returns-in-Ok g c =
     let one = c.law_one_finding.ensures in
     let spool = c.law_one_finding-2.ensures in
     ended g.D.Disk.told g.met.D.Disk.sound spool.not_blank c.args.batch.now.0 c.args.batch.now.1 c.args.node c.args.disk c.view.ensures.stands
-    one.party one.format spool.state c.in-Ok.spool c.in-Ok.ensures.begun c.in-Ok.ensures.in_step c.drive-driven.result c.ended.result c.drive-driven.ensures c.ended.ensures.disks c.ended.ensures.outcome
+    one.party one.format spool.state c.in-Ok.spool c.in-Ok.ensures.begun c.in-Ok.ensures.in_step c.drive-driven.result c.ended.result c.drive-driven.ensures.drive c.drive-driven.ensures.anyhow c.ended.ensures.disks c.ended.ensures.outcome
 
 pub returns-in-Err : goal.returns-in-Err
 returns-in-Err g c =

@@ -1,4 +1,4 @@
-use Rattle.x_spool.proofs.Around.{all_makes, all_shelf, all_stays, unfetched_makes, unfetched_shelf, unfetched_stays}
+use Rattle.x_spool.proofs.Around.{all_makes, all_onward, all_shelf, all_stays, unfetched_makes, unfetched_onward, unfetched_shelf, unfetched_stays}
 use Rattle.x_spool.proofs.Following.{due}
 use Rattle.x_spool.proofs.spooling.spool.Goals as goal
 
@@ -10,6 +10,10 @@ pub returns-in-Err-clause-in_step : goal.returns-in-Err-clause-in_step
 returns-in-Err-clause-in_step g c =
     unfetched_stays g.H.Disk.Disk.told c.args.batch.now.0 c.args.batch.now.1 c.args.party.now c.args.spool.now _ _ c.in-Err.cause c.failure.result c.failure.ensures c.in-Err.ensures
     (g.met.H.Shelf.sound c.args.shelf.now c.args.party.now) (g.met.H.Shelf.sound c.args.shelf.now c.args.spool.now)
+
+pub returns-in-Err-clause-onward : goal.returns-in-Err-clause-onward
+returns-in-Err-clause-onward g c =
+    unfetched_onward g.H.Disk.Disk.told c.args.batch.now.0 c.args.batch.now.1 c.args.party.now c.args.spool.now _ _ c.in-Err.cause c.failure.result c.failure.ensures c.in-Err.ensures
 
 pub returns-in-Err-clause-due : goal.returns-in-Err-clause-due
 returns-in-Err-clause-due g c =
@@ -29,6 +33,10 @@ returns-clause-made g c = all_makes g.H.Disk.Disk.told c.args.batch.now.0 c.args
 
 pub returns-clause-in_step : goal.returns-clause-in_step
 returns-clause-in_step g c = all_stays g.H.Disk.Disk.told c.args.batch.now.0 c.args.batch.now.1 c.args.party.now c.args.spool.now _ _ _ c.in-Ok.disks c.spool_over-disks.result.0 c.put_back_two.result
+    c.spool_over-disks.result.1 c.closed.result c.in-Ok.ensures c.spool_over-disks.ensures c.put_back_two.ensures c.closed.ensures
+
+pub returns-clause-onward : goal.returns-clause-onward
+returns-clause-onward g c = all_onward g.H.Disk.Disk.told c.args.batch.now.0 c.args.batch.now.1 c.args.party.now c.args.spool.now _ _ _ c.in-Ok.disks c.spool_over-disks.result.0 c.put_back_two.result
     c.spool_over-disks.result.1 c.closed.result c.in-Ok.ensures c.spool_over-disks.ensures c.put_back_two.ensures c.closed.ensures
 
 pub returns-clause-due : goal.returns-clause-due
