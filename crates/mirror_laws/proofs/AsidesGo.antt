@@ -6,10 +6,10 @@ use Rattle.member.specs.Member.{Member}
 use Rattle.world_laws.specs.World.{World, member_at}
 use Rattle.mirror_laws.specs.Sessions.{PairDeed, Aside, IsAside}
 use Rattle.mirror_laws.proofs.Images.{Pair, fewer}
-use Rattle.mirror_laws.proofs.Led.{IsPossible, GoesOn, led_still, same_led}
+use Rattle.mirror_laws.proofs.Led.{IsPossible, GoesOn, led_still}
 use Rattle.mirror_laws.proofs.OwnDisks.{second_view, second_untouched}
 
-module _ (start : World) (mirror : List ℕ → Option (List ℕ)) (disks : ℕ → List ℕ → View) (ds : List PairDeed) (texts : List (List ℕ)) (g : GoesOn start mirror disks ds texts (disks (0 + length ds)))
+module _ (start : World) (mirror : List ℕ → Option (List ℕ)) (disks : ℕ → List ℕ → View) (ds : List PairDeed) (g : GoesOn start mirror disks ds (disks (0 + length ds)))
     (new : List ℕ → View) (is : IsAside start mirror (disks (0 + length ds)) new) where
   abbrev was : List ℕ → View
   was = disks (0 + length ds)
@@ -21,9 +21,9 @@ module _ (start : World) (mirror : List ℕ → Option (List ℕ)) (disks : ℕ 
   possible_before images possible q x h =
       fewer (new q).may_leave (second_view (mirror q) new).may_leave (was q).may_leave (second_view (mirror q) was).may_leave (is.firsts q x h).images (second q x h).images (images q).first (images q).second (possible q x h)
 
-  pub aside : GoesOn start mirror disks (ds ++ Aside ∷ []) (texts ++ []) new
+  pub aside : GoesOn start mirror disks (ds ++ Aside ∷ []) new
   aside = record {
     first_tells = λ q x h. ap is_some (is.firsts q x h).now ∙ g.first_tells q x h;
     second_tells = λ q x h. ap is_some (second q x h).now ∙ g.second_tells q x h;
-    reach = λ images possible. same_led start mirror disks (ds ++ Aside ∷ []) texts images (led_still start mirror disks ds texts images Aside refl (g.reach images (possible_before images possible)));
+    reach = λ images possible. led_still start mirror disks ds images Aside (refl, refl) (g.reach images (possible_before images possible));
   }

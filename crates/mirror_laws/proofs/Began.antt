@@ -261,10 +261,10 @@ module _ (known : Known) (exactly : LoadsExactly) (mirror : List ℕ → Option 
   -- a call over the disks of one party leaves those of another
   module _ (own : List ℕ) (there : IsThere own end.members) (old new : List ℕ → View) (stay : AllButOwnStay (mirror own) own old new) (name : List ℕ) (at : IsThere name end.members) (ne : name ≢ own) where
     first_alike : IsAlike (old name) (new name)
-    first_alike = but_own mirror own old new stay name ne (apart.firsts name own at.0 there.0 at.1 there.1)
+    first_alike = (but_own end mirror apart own there.0 there.1 old new stay).firsts name at.0 at.1 ne
 
     second_alike : (second : List ℕ) → mirror name ≡ Some second → IsAlike (old second) (new second)
-    second_alike second has = but_own mirror own old new stay second (λ is. apart.firsts own name there.0 at.0 there.1 at.1 (has ∙ ap (λ (q : List ℕ). Some q) is)) (apart.seconds name own second at.0 there.0 at.1 there.1 ne has)
+    second_alike second has = (but_own end mirror apart own there.0 there.1 old new stay).seconds name second at.0 at.1 ne has
 
     other_stands : (x : Member) → StandsOnOwn (mirror name) name old x → StandsOnOwn (mirror name) name new x
     other_stands x = go (mirror name) second_alike

@@ -1,5 +1,5 @@
 -- A call over two disks goes on from what a session may have come to, by its events.
-use Rattle.std.proofs.Common.{◌≡◌, ◌≢◌, ◌⊎◌, inl, inr, ℕ, ◌+◌, true, false, Option, Some, List, [], ◌∷◌, ◌++◌, length, sym, ◌∙◌, subst}
+use Rattle.std.proofs.Common.{◌≡◌, ◌≢◌, ◌⊎◌, inl, inr, ℕ, ◌+◌, true, false, Option, Some, List, [], ◌∷◌, ◌++◌, length, refl, sym, ◌∙◌, subst}
 use Rattle.x_disk.specs.Disk.{View, Tells, IsSound, IsUntouched}
 use Rattle.key_journal.specs.Journal.{is_blank}
 use Rattle.party_state.specs.declared.command.Input.{Input}
@@ -42,11 +42,11 @@ module _ (known : Known) (inputs : (x : Member) (i : Input) (moment : ℕ) → I
     (refusing : (p : Party) (i : Input) (moment : ℕ) → is_accept (decision p i moment).verdict ≡ false → (decision p i moment).change ≡ [])
     (one_pair : (i j : List ℕ) (p q : Party) → Recovers i j p → Recovers i j q → p ≡ q)
     (refused : (i j : List ℕ) (p : Party) (reason : PairCause) → Recovers i j p → IsPairRefusal i j reason → IsPairFailure p reason)
-    (start : World) (mirror : List ℕ → Option (List ℕ)) (apart : HaveOwnDisks mirror start) (disks : ℕ → List ℕ → View) (ds : List PairDeed) (texts : List (List ℕ)) (g : GoesOn start mirror disks ds texts (disks (0 + length ds)))
+    (start : World) (mirror : List ℕ → Option (List ℕ)) (apart : HaveOwnDisks mirror start) (disks : ℕ → List ℕ → View) (ds : List PairDeed) (g : GoesOn start mirror disks ds (disks (0 + length ds)))
     (sound : (q : List ℕ) → IsSound (disks (0 + length ds) q))
     (name second bytes : List ℕ) (has : mirror name ≡ Some second) (i : Input) (moment : ℕ) (o : Outcome) (is_action : IsAction (action_of bytes i)) (x0 : Member) (at0 : member_at name start.members ≡ Some x0) (mid : List ℕ → View)
     (turned : IsTurned name i moment o (disks (0 + length ds) name) (second_view (mirror name) (disks (0 + length ds))) (mid name) (second_view (mirror name) mid))
-    (thirds : ButOwn mirror name (disks (0 + length ds)) mid) where
+    (thirds : ButOwn start mirror name (disks (0 + length ds)) mid) where
   abbrev was : List ℕ → View
   was = disks (0 + length ds)
 
@@ -60,9 +60,9 @@ module _ (known : Known) (inputs : (x : Member) (i : Input) (moment : ℕ) → I
   second_told = turned.safe.second_tells ∙ g.second_tells name x0 at0
 
   -- with these images of the others
-  module _ (images : List ℕ → Pair) (others : OthersMay start mirror apart disks ds texts g name x0 at0 mid thirds images) where
+  module _ (images : List ℕ → Pair) (others : OthersMay start mirror apart disks ds g name x0 at0 mid thirds images) where
     abbrev some : (f : Option (List ℕ)) (d : List ℕ) → MayBe (was name).may_leave (second_view (mirror name) was).may_leave f d → Somebody name f d
-    some f d may = somebody start mirror disks ds texts g name x0 at0 images others f d may
+    some f d may = somebody start mirror disks ds g name x0 at0 images others f d may
 
     abbrev here : Somebody name (Some now.was_first) now.was_second
     here = some (Some now.was_first) now.was_second (now.first_may, now.second_may)
@@ -114,17 +114,17 @@ module _ (known : Known) (inputs : (x : Member) (i : Input) (moment : ℕ) → I
             large_way known inputs one_pair refused name bytes i moment is_action (was name) (second_view (mirror name) was) (mid name) (second_view (mirror name) mid) some now.was_first now.was_second now.first_may now.second_may
             first_told second_told large (still large) f d may o (turned.makes now.was_first now.was_second now.read)
 
-  pub called : ((q : List ℕ) → IsSound (mid q)) → GoesOn start mirror disks (ds ++ Called name (action_of bytes i) moment o ∷ []) (texts ++ reply_of o) mid
+  pub called : ((q : List ℕ) → IsSound (mid q)) → GoesOn start mirror disks (ds ++ Called name (action_of bytes i) moment o ∷ []) mid
   called sound_mid =
-      ended_goes start mirror apart disks ds texts g name x0 at0 mid thirds (Called name (action_of bytes i) moment o) (reply_of o) first_told second_told
+      ended_goes start mirror apart disks ds g name x0 at0 mid thirds (Called name (action_of bytes i) moment o) (reply_of o) (IsCallOn (mirror name) o name (action_of bytes i) moment (was name)) (λ es is. (is, refl)) first_told second_told
       (λ images others may. way_more name (was name).may_leave (second_view (mirror name) was).may_leave (some images others) (reply_of o) (IsPairCallOf o name (action_of bytes i) moment (was name))
       (IsCallOn (mirror name) o name (action_of bytes i) moment (was name)) (λ es is. subst (λ (m : Option (List ℕ)). IsCallOn m o name (action_of bytes i) moment (was name) es) (sym has) is)
       (images name).first (images name).second (called_way images others sound_mid may))
 
   -- the power fails in it
-  pub cut_off : (new : List ℕ → View) → PairOffWithin mirror name was mid new → GoesOn start mirror disks (ds ++ CutOff name (action_of bytes i) moment o ∷ []) (texts ++ []) new
+  pub cut_off : (new : List ℕ → View) → PairOffWithin mirror name was mid new → GoesOn start mirror disks (ds ++ CutOff name (action_of bytes i) moment o ∷ []) new
   cut_off new off =
-      cut_goes start mirror apart disks ds texts g name x0 at0 mid thirds (CutOff name (action_of bytes i) moment o) new off
+      cut_goes start mirror apart disks ds g name x0 at0 mid thirds (CutOff name (action_of bytes i) moment o) (IsCutOn (mirror name) name (action_of bytes i) moment (was name)) (λ es is. (is, refl)) new off
       (λ images others may. way_more name (was name).may_leave (second_view (mirror name) was).may_leave (some images others) [] (IsUnanswered name (action_of bytes i) moment (was name))
       (IsCutOn (mirror name) name (action_of bytes i) moment (was name)) (λ es is. subst (λ (m : Option (List ℕ)). IsCutOn m name (action_of bytes i) moment (was name) es) (sym has) is)
       (images name).first (images name).second (cut_way images others may))

@@ -25,40 +25,55 @@ pub record IsAt (start : World) (texts : List (List ℕ)) (images : List ℕ →
 abbrev pub IsPossible : World → (List ℕ → Option (List ℕ)) → (List ℕ → View) → (List ℕ → Pair) → Type 0
 IsPossible start mirror disks images = (q : List ℕ) (x : Member) → member_at q start.members ≡ Some x → MayBe (disks q).may_leave (second_view (mirror q) disks).may_leave (images q).first (images q).second
 
-pub record Led (start : World) (mirror : List ℕ → Option (List ℕ)) (disks : ℕ → List ℕ → View) (ds : List PairDeed) (texts : List (List ℕ)) (images : List ℕ → Pair) : Type 0 where
+pub record Led (start : World) (mirror : List ℕ → Option (List ℕ)) (disks : ℕ → List ℕ → View) (ds : List PairDeed) (images : List ℕ → Pair) : Type 0 where
   pub events : List PairEvent
-  pub of_deeds : AreOfPairDeeds mirror ds 0 disks events
+  pub texts : List (List ℕ)
+  pub of_deeds : AreOfPairDeeds mirror ds 0 disks events texts
   pub are_events : ArePairEvents events
   pub at : IsAt start texts images (pair_run 1 start events)
 
 -- `disks` is what is told before each deed, and `now` what is told after these
-pub record GoesOn (start : World) (mirror : List ℕ → Option (List ℕ)) (disks : ℕ → List ℕ → View) (ds : List PairDeed) (texts : List (List ℕ)) (now : List ℕ → View) : Type 0 where
+pub record GoesOn (start : World) (mirror : List ℕ → Option (List ℕ)) (disks : ℕ → List ℕ → View) (ds : List PairDeed) (now : List ℕ → View) : Type 0 where
   pub first_tells : (q : List ℕ) (x : Member) → member_at q start.members ≡ Some x → Tells (now q)
   pub second_tells : (q : List ℕ) (x : Member) → member_at q start.members ≡ Some x → Tells (second_view (mirror q) now)
-  pub reach : (images : List ℕ → Pair) → IsPossible start mirror now images → Led start mirror disks ds texts images
+  pub reach : (images : List ℕ → Pair) → IsPossible start mirror now images → Led start mirror disks ds images
 
 -- one deed more
-of_more : (mirror : List ℕ → Option (List ℕ)) (disks : ℕ → List ℕ → View) (ds : List PairDeed) (k : ℕ) (d : PairDeed) (es more : List PairEvent) → AreOfPairDeeds mirror ds k disks es → IsOfPairDeed mirror d (disks (k + length ds)) more
-    → AreOfPairDeeds mirror (ds ++ d ∷ []) k disks (es ++ more)
-of_more mirror disks [] k d es more is last =
+of_more : (mirror : List ℕ → Option (List ℕ)) (disks : ℕ → List ℕ → View) (ds : List PairDeed) (k : ℕ) (d : PairDeed) (es more : List PairEvent) (texts added : List (List ℕ)) → AreOfPairDeeds mirror ds k disks es texts
+    → IsOfPairDeed mirror d (disks (k + length ds)) more added → AreOfPairDeeds mirror (ds ++ d ∷ []) k disks (es ++ more) (texts ++ added)
+of_more mirror disks [] k d es more texts added is last =
     let place : k + 0 ≡ k = omega arith in
-    record { first = more; others = []; whole = ap (λ (fs : List PairEvent). fs ++ more) is ∙ sym (append-nil more); is = subst (λ (n : ℕ). IsOfPairDeed mirror d (disks n) more) place last; follow = refl }
-of_more mirror disks (c ∷ ds) k d es more is last =
+    record {
+      first = more;
+      others = [];
+      whole = ap (λ (fs : List PairEvent). fs ++ more) is.0 ∙ sym (append-nil more);
+      first_texts = added;
+      other_texts = [];
+      all = ap (λ (ts : List (List ℕ)). ts ++ added) is.1 ∙ sym (append-nil added);
+      is = subst (λ (n : ℕ). IsOfPairDeed mirror d (disks n) more added) place last;
+      follow = (refl, refl);
+    }
+of_more mirror disks (c ∷ ds) k d es more texts added is last =
     let place : k + length (c ∷ ds) ≡ suc k + length ds = omega arith in
     record {
       first = is.first;
       others = is.others ++ more;
       whole = ap (λ (fs : List PairEvent). fs ++ more) is.whole ∙ append_assoc is.first is.others more;
+      first_texts = is.first_texts;
+      other_texts = is.other_texts ++ added;
+      all = ap (λ (ts : List (List ℕ)). ts ++ added) is.all ∙ append_assoc is.first_texts is.other_texts added;
       is = is.is;
-      follow = of_more mirror disks ds (suc k) d is.others more is.follow (subst (λ (n : ℕ). IsOfPairDeed mirror d (disks n) more) place last);
+      follow = of_more mirror disks ds (suc k) d is.others more is.other_texts added is.follow (subst (λ (n : ℕ). IsOfPairDeed mirror d (disks n) more added) place last);
     }
 
 -- with no event
-pub led_still : (start : World) (mirror : List ℕ → Option (List ℕ)) (disks : ℕ → List ℕ → View) (ds : List PairDeed) (texts : List (List ℕ)) (images : List ℕ → Pair) (d : PairDeed) → IsOfPairDeed mirror d (disks (0 + length ds)) []
-    → Led start mirror disks ds texts images → Led start mirror disks (ds ++ d ∷ []) texts images
-led_still start mirror disks ds texts images d none r = record {
+pub led_still : (start : World) (mirror : List ℕ → Option (List ℕ)) (disks : ℕ → List ℕ → View) (ds : List PairDeed) (images : List ℕ → Pair) (d : PairDeed) → IsOfPairDeed mirror d (disks (0 + length ds)) [] []
+    → Led start mirror disks ds images → Led start mirror disks (ds ++ d ∷ []) images
+led_still start mirror disks ds images d none r = record {
   events = r.events;
-  of_deeds = subst (AreOfPairDeeds mirror (ds ++ d ∷ []) 0 disks) (append-nil r.events) (of_more mirror disks ds 0 d r.events [] r.of_deeds none);
+  texts = r.texts;
+  of_deeds = subst (λ (es : List PairEvent). AreOfPairDeeds mirror (ds ++ d ∷ []) 0 disks es r.texts) (append-nil r.events)
+      (subst (λ (ts : List (List ℕ)). AreOfPairDeeds mirror (ds ++ d ∷ []) 0 disks (r.events ++ []) ts) (append-nil r.texts) (of_more mirror disks ds 0 d r.events [] r.texts [] r.of_deeds none));
   are_events = r.are_events;
   at = r.at;
 }
@@ -96,18 +111,16 @@ module _ (start : World) (texts more : List (List ℕ)) (images new : List ℕ �
     texts_are = arrives.moved.texts_are ∙ (ap (λ (ts : List (List ℕ)). ts ++ more) i.texts_are ∙ append_assoc start.texts texts more);
   }
 
--- with these events, at the member of this name
-pub led_on : (start : World) (mirror : List ℕ → Option (List ℕ)) (disks : ℕ → List ℕ → View) (ds : List PairDeed) (texts more : List (List ℕ)) (images new : List ℕ → Pair) (name : List ℕ) (r : Led start mirror disks ds texts images) (d : PairDeed) (x : Member)
+-- with these events and texts, at the member of this name
+pub led_on : (start : World) (mirror : List ℕ → Option (List ℕ)) (disks : ℕ → List ℕ → View) (ds : List PairDeed) (more : List (List ℕ)) (images new : List ℕ → Pair) (name : List ℕ) (r : Led start mirror disks ds images) (d : PairDeed) (x : Member)
     → member_at name (pair_run 1 start r.events).members ≡ Some x → ((q : List ℕ) → q ≢ name → new q ≡ images q)
-    → Going name x more (IsOfPairDeed mirror d (disks (0 + length ds))) (new name).first (new name).second → Led start mirror disks (ds ++ d ∷ []) (texts ++ more) new
-led_on start mirror disks ds texts more images new name r d x at others going = record {
+    → Going name x more (λ es. IsOfPairDeed mirror d (disks (0 + length ds)) es more) (new name).first (new name).second → Led start mirror disks (ds ++ d ∷ []) new
+led_on start mirror disks ds more images new name r d x at others going = record {
   events = r.events ++ going.events;
-  of_deeds = of_more mirror disks ds 0 d r.events going.events r.of_deeds going.is;
+  texts = r.texts ++ more;
+  of_deeds = of_more mirror disks ds 0 d r.events going.events r.texts more r.of_deeds going.is;
   are_events = pair_events_more r.events going.events r.are_events going.are_events;
-  at = subst (IsAt start (texts ++ more) new) (sym (pair_run_more 1 start r.events going.events))
-      (one_more start texts more images new name (pair_run 1 start r.events) r.at x at others (pair_run (pair_number_after 1 r.events) (pair_run 1 start r.events) going.events)
+  at = subst (IsAt start (r.texts ++ more) new) (sym (pair_run_more 1 start r.events going.events))
+      (one_more start r.texts more images new name (pair_run 1 start r.events) r.at x at others (pair_run (pair_number_after 1 r.events) (pair_run 1 start r.events) going.events)
       (going.arrives (pair_number_after 1 r.events) (pair_run 1 start r.events) at));
 }
-
-pub same_led : (start : World) (mirror : List ℕ → Option (List ℕ)) (disks : ℕ → List ℕ → View) (ds : List PairDeed) (texts : List (List ℕ)) (images : List ℕ → Pair) → Led start mirror disks ds texts images → Led start mirror disks ds (texts ++ []) images
-same_led start mirror disks ds texts images r = subst (λ (ts : List (List ℕ)). Led start mirror disks ds ts images) (sym (append-nil texts)) r

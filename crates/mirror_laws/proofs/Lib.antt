@@ -19,6 +19,8 @@ mod CallsGo
 mod ShowsGo
 mod Tending
 mod TendsGo
+mod Batching
+mod BatchesGo
 pub mod Asides
 mod AsidesGo
 mod LossesGo

@@ -11,23 +11,24 @@ use Rattle.member.specs.Member.{Member}
 use Rattle.world_laws.specs.World.{World, member_at}
 use Rattle.mirror_laws.specs.Runs.{Which, FirstDisk, SecondDisk, Loses}
 use Rattle.mirror_laws.specs.Sessions.{PairDeed, PowerFails, Lost, HaveOwnDisks, AllOwnOff, IsLost}
+use Rattle.mirror_laws.specs.Deeds.{IsOfPairDeed}
 use Rattle.mirror_laws.proofs.Moves.{after_lost, party_kept, lost_moves}
 use Rattle.mirror_laws.proofs.Images.{Pair, StandsFor, MayBe, Known, told, fewer, opened_first, first_stands, opened_lost}
-use Rattle.mirror_laws.proofs.Ways.{Somebody, Going, Way}
-use Rattle.mirror_laws.proofs.Led.{IsPossible, Led, GoesOn, led_still, same_led}
+use Rattle.mirror_laws.proofs.Ways.{Somebody, Going, Way, some_way}
+use Rattle.mirror_laws.proofs.Led.{IsPossible, Led, GoesOn, led_still}
 use Rattle.mirror_laws.proofs.Asked.{somebody, by_way, off_left}
 use Rattle.mirror_laws.proofs.OwnDisks.{second_view, second_sound, second_alike, second_off, not_second, not_first, not_mirror}
 
 -- the power fails while no party's disk is written
-pub all_off : (start : World) (mirror : List ℕ → Option (List ℕ)) (disks : ℕ → List ℕ → View) (ds : List PairDeed) (texts : List (List ℕ)) → GoesOn start mirror disks ds texts (disks (0 + length ds)) → (new : List ℕ → View) → AllOwnOff start mirror (disks (0 + length ds)) new
-    → GoesOn start mirror disks (ds ++ PowerFails ∷ []) (texts ++ []) new
-all_off start mirror disks ds texts g new off = record {
+pub all_off : (start : World) (mirror : List ℕ → Option (List ℕ)) (disks : ℕ → List ℕ → View) (ds : List PairDeed) → GoesOn start mirror disks ds (disks (0 + length ds)) → (new : List ℕ → View) → AllOwnOff start mirror (disks (0 + length ds)) new
+    → GoesOn start mirror disks (ds ++ PowerFails ∷ []) new
+all_off start mirror disks ds g new off = record {
   first_tells = λ q x h. ap is_some (off.firsts q x h).reads;
   second_tells = λ q x h. ap is_some (second_off (mirror q) (disks (0 + length ds)) new (λ s e. off.seconds q s x h e)).reads;
-  reach = λ images possible. same_led start mirror disks (ds ++ PowerFails ∷ []) texts images (led_still start mirror disks ds texts images PowerFails refl (g.reach images (λ q x h.
+  reach = λ images possible. led_still start mirror disks ds images PowerFails (refl, refl) (g.reach images (λ q x h.
       fewer (new q).may_leave (second_view (mirror q) new).may_leave (disks (0 + length ds) q).may_leave (second_view (mirror q) (disks (0 + length ds))).may_leave
       (off_left (disks (0 + length ds) q).may_leave (new q) (off.firsts q x h)) (off_left (second_view (mirror q) (disks (0 + length ds))).may_leave (second_view (mirror q) new) (second_off (mirror q) (disks (0 + length ds)) new (λ s e. off.seconds q s x h e)))
-      (images q).first (images q).second (possible q x h))));
+      (images q).first (images q).second (possible q x h)));
 }
 
 -- by the loss of this disk
@@ -42,7 +43,7 @@ lost_by name which x f d stands = record {
 not_both : {A : Type 0} (c : List ℕ) → is_blank c ≡ true → is_blank c ≡ false → A
 not_both c blank not = (let lie : true ≡ false = sym blank ∙ not in absurd (cc lie))
 
-module _ (known : Known) (start : World) (mirror : List ℕ → Option (List ℕ)) (apart : HaveOwnDisks mirror start) (disks : ℕ → List ℕ → View) (ds : List PairDeed) (texts : List (List ℕ)) (g : GoesOn start mirror disks ds texts (disks (0 + length ds)))
+module _ (known : Known) (start : World) (mirror : List ℕ → Option (List ℕ)) (apart : HaveOwnDisks mirror start) (disks : ℕ → List ℕ → View) (ds : List PairDeed) (g : GoesOn start mirror disks ds (disks (0 + length ds)))
     (sound : (q : List ℕ) → IsSound (disks (0 + length ds) q)) (name : List ℕ) (new : List ℕ → View) where
   abbrev was : List ℕ → View
   was = disks (0 + length ds)
@@ -74,18 +75,18 @@ module _ (known : Known) (start : World) (mirror : List ℕ → Option (List ℕ
     second_may = (seconds_stay name l.member l.at).images
 
     first_lost : (images : List ℕ → Pair) (others : OthersMay images) (f : Option (List ℕ)) (d : List ℕ) → MayBe (new name).may_leave (second_view (mirror name) new).may_leave f d
-        → Way name (was name).may_leave (second_view (mirror name) was).may_leave (somebody start mirror disks ds texts g name l.member l.at images others) [] (λ es. es ≡ Loses name FirstDisk ∷ []) f d
+        → Way name (was name).may_leave (second_view (mirror name) was).may_leave (somebody start mirror disks ds g name l.member l.at images others) [] (λ es. es ≡ Loses name FirstDisk ∷ []) f d
     first_lost images others (Some c) d may =
         let possible : MayBe (was name).may_leave (second_view (mirror name) was).may_leave None d = (second_may d may.1, full d (second_may d may.1)) in
-        let k : Somebody name None d = somebody start mirror disks ds texts g name l.member l.at images others None d possible in
+        let k : Somebody name None d = somebody start mirror disks ds g name l.member l.at images others None d possible in
         let blank : is_blank c ≡ true = ap is_blank (l.durable.only l.image c l.reads may.0) ∙ l.blank in
         record { from_first = None; from_second = d; possible = possible; going = lost_by name FirstDisk k.member (Some c) d (opened_lost known c d k.member blank k.stands) }
     first_lost images others None d may =
         let possible : MayBe (was name).may_leave (second_view (mirror name) was).may_leave None d = (second_may d may.0, may.1) in
-        let k : Somebody name None d = somebody start mirror disks ds texts g name l.member l.at images others None d possible in
+        let k : Somebody name None d = somebody start mirror disks ds g name l.member l.at images others None d possible in
         record { from_first = None; from_second = d; possible = possible; going = lost_by name FirstDisk k.member None d (subst (Stands d) (sym (party_kept (Some Two) k.member)) k.stands) }
 
-    pub loses_first : GoesOn start mirror disks (ds ++ Lost name FirstDisk ∷ []) (texts ++ []) new
+    pub loses_first : GoesOn start mirror disks (ds ++ Lost name FirstDisk ∷ []) new
     loses_first = record { first_tells = first_tells; second_tells = second_tells; reach = reach }
       where
         first_tells : (q : List ℕ) (x : Member) → member_at q start.members ≡ Some x → Tells (new q)
@@ -98,10 +99,12 @@ module _ (known : Known) (start : World) (mirror : List ℕ → Option (List ℕ
         second_tells : (q : List ℕ) (x : Member) → member_at q start.members ≡ Some x → Tells (second_view (mirror q) new)
         second_tells q x h = ap is_some (seconds_stay q x h).now ∙ g.second_tells q x h
 
-        reach : (images : List ℕ → Pair) → IsPossible start mirror new images → Led start mirror disks (ds ++ Lost name FirstDisk ∷ []) (texts ++ []) images
+        reach : (images : List ℕ → Pair) → IsPossible start mirror new images → Led start mirror disks (ds ++ Lost name FirstDisk ∷ []) images
         reach images possible =
             let others : OthersMay images = first_others images possible in
-            by_way start mirror disks ds texts g name l.member l.at images others (Lost name FirstDisk) [] (first_lost images others (images name).first (images name).second (possible name l.member l.at))
+            by_way start mirror disks ds g name l.member l.at images others (Lost name FirstDisk)
+            (some_way name (was name).may_leave (second_view (mirror name) was).may_leave (somebody start mirror disks ds g name l.member l.at images others) [] (λ es. es ≡ Loses name FirstDisk ∷ []) (IsOfPairDeed mirror (Lost name FirstDisk) was)
+            (λ es is. (is, refl)) (images name).first (images name).second (first_lost images others (images name).first (images name).second (possible name l.member l.at)))
 
   -- ---- the second disk is lost
 
@@ -133,15 +136,15 @@ module _ (known : Known) (start : World) (mirror : List ℕ → Option (List ℕ
     blank d left = ap is_blank (durable.only l.image d reads left) ∙ l.blank
 
     second_lost : (images : List ℕ → Pair) (others : OthersMay images) (f : Option (List ℕ)) (d : List ℕ) → MayBe (new name).may_leave (second_view (mirror name) new).may_leave f d
-        → Way name (was name).may_leave (second_view (mirror name) was).may_leave (somebody start mirror disks ds texts g name l.member l.at images others) [] (λ es. es ≡ Loses name SecondDisk ∷ []) f d
+        → Way name (was name).may_leave (second_view (mirror name) was).may_leave (somebody start mirror disks ds g name l.member l.at images others) [] (λ es. es ≡ Loses name SecondDisk ∷ []) f d
     second_lost images others (Some c) d may =
         let possible : MayBe (was name).may_leave (second_view (mirror name) was).may_leave (Some c) second_now.0 = (first_may c may.0, (second_sound (mirror name) was sound).now_among second_now.0 second_now.1) in
-        let k : Somebody name (Some c) second_now.0 = somebody start mirror disks ds texts g name l.member l.at images others (Some c) second_now.0 possible in
+        let k : Somebody name (Some c) second_now.0 = somebody start mirror disks ds g name l.member l.at images others (Some c) second_now.0 possible in
         let stands = first_stands known c second_now.0 k.member k.stands (l.left c (first_may c may.0)) in
         record { from_first = Some c; from_second = second_now.0; possible = possible; going = lost_by name SecondDisk k.member (Some c) d (opened_first known c d name k.member k.own stands (inl (blank d may.1))) }
     second_lost images others None d may = not_both d (blank d may.0) may.1
 
-    pub loses_second : GoesOn start mirror disks (ds ++ Lost name SecondDisk ∷ []) (texts ++ []) new
+    pub loses_second : GoesOn start mirror disks (ds ++ Lost name SecondDisk ∷ []) new
     loses_second = record { first_tells = first_tells; second_tells = second_tells; reach = reach }
       where
         first_tells : (q : List ℕ) (x : Member) → member_at q start.members ≡ Some x → Tells (new q)
@@ -154,7 +157,9 @@ module _ (known : Known) (start : World) (mirror : List ℕ → Option (List ℕ
             go true e = subst (λ (a : List ℕ). Tells (second_view (mirror a) new)) (sym (is_same q e)) (ap is_some reads)
             go false e = ap is_some (other_seconds_stay q x h (is_other q e)).now ∙ g.second_tells q x h
 
-        reach : (images : List ℕ → Pair) → IsPossible start mirror new images → Led start mirror disks (ds ++ Lost name SecondDisk ∷ []) (texts ++ []) images
+        reach : (images : List ℕ → Pair) → IsPossible start mirror new images → Led start mirror disks (ds ++ Lost name SecondDisk ∷ []) images
         reach images possible =
             let others : OthersMay images = second_others images possible in
-            by_way start mirror disks ds texts g name l.member l.at images others (Lost name SecondDisk) [] (second_lost images others (images name).first (images name).second (possible name l.member l.at))
+            by_way start mirror disks ds g name l.member l.at images others (Lost name SecondDisk)
+            (some_way name (was name).may_leave (second_view (mirror name) was).may_leave (somebody start mirror disks ds g name l.member l.at images others) [] (λ es. es ≡ Loses name SecondDisk ∷ []) (IsOfPairDeed mirror (Lost name SecondDisk) was)
+            (λ es is. (is, refl)) (images name).first (images name).second (second_lost images others (images name).first (images name).second (possible name l.member l.at)))

@@ -1,5 +1,5 @@
 -- What events at one member make of a network.
-use Rattle.std.proofs.Common.{◌≡◌, ◌≢◌, ℕ, suc, Bool, true, false, cond, Option, Some, None, List, [], ◌∷◌, ◌++◌, refl, sym, ◌∙◌, subst, bytes_eq, append-nil}
+use Rattle.std.proofs.Common.{◌≡◌, ◌≢◌, ℕ, suc, Bool, true, false, cond, Option, Some, None, List, [], ◌∷◌, ◌++◌, refl, sym, ◌∙◌, ap, subst, bytes_eq, append-nil, append_assoc}
 use Rattle.party_tables.proofs.Keys.{test_idents}
 use Rattle.party_tables.proofs.Tables.{find_key}
 use Rattle.party_state.specs.declared.command.Input.{Input}
@@ -38,6 +38,14 @@ moved_on name w mid later texts y z first next = record {
   at = next.at;
   others = λ q ne. next.others q ne ∙ first.others q ne;
   texts_are = next.texts_are ∙ (append-nil mid.texts ∙ first.texts_are);
+}
+
+-- and after more, which write more
+pub moved_then : (name : List ℕ) (w mid later : World) (texts more : List (List ℕ)) (y z : Member) → Moved name w mid texts y → Moved name mid later more z → Moved name w later (texts ++ more) z
+moved_then name w mid later texts more y z first next = record {
+  at = next.at;
+  others = λ q ne. next.others q ne ∙ first.others q ne;
+  texts_are = next.texts_are ∙ (ap (λ (ts : List (List ℕ)). ts ++ more) first.texts_are ∙ append_assoc w.texts texts more);
 }
 
 -- ---- the party is written whole

@@ -149,9 +149,9 @@ module _ (known : Known) (undamaged : (image : List ℕ) (party : Party) (place 
     one_cut = beside_way (OnlyHappen (IsCutOrNone name action moment)) [] (new.left_since old.moment) cut_way
 
   -- a call in a session
-  module _ (start : World) (mirror : List ℕ → Option (List ℕ)) (apart : HaveOwnDisks mirror start) (disks : ℕ → List ℕ → View) (ds : List PairDeed) (texts : List (List ℕ)) (g : GoesOn start mirror disks ds texts (disks (0 + length ds)))
+  module _ (start : World) (mirror : List ℕ → Option (List ℕ)) (apart : HaveOwnDisks mirror start) (disks : ℕ → List ℕ → View) (ds : List PairDeed) (g : GoesOn start mirror disks ds (disks (0 + length ds)))
       (sound : (q : List ℕ) → IsSound (disks (0 + length ds) q)) (name : List ℕ) (none : mirror name ≡ None) (action : Action) (moment : ℕ) (o : Outcome) (is_action : IsAction action) (x0 : Member)
-      (at0 : member_at name start.members ≡ Some x0) (mid : List ℕ → View) (made : IsMade name action moment o (disks (0 + length ds) name) (mid name)) (others_stay : ButOwn mirror name (disks (0 + length ds)) mid) where
+      (at0 : member_at name start.members ≡ Some x0) (mid : List ℕ → View) (made : IsMade name action moment o (disks (0 + length ds) name) (mid name)) (others_stay : ButOwn start mirror name (disks (0 + length ds)) mid) where
     abbrev was : List ℕ → View
     was = disks (0 + length ds)
 
@@ -168,11 +168,11 @@ module _ (known : Known) (undamaged : (image : List ℕ) (party : Party) (place 
     ended_ways : Ways None
     ended_ways some sound_mid = one_ended name action moment o is_action (was name) (mid name) made (sound name) some now_is.0 now_is.1 sound_mid first_tells
 
-    pub one_called : IsSound (mid name) → GoesOn start mirror disks (ds ++ Called name action moment o ∷ []) (texts ++ reply_of o) mid
+    pub one_called : IsSound (mid name) → GoesOn start mirror disks (ds ++ Called name action moment o ∷ []) mid
     one_called sound_mid =
-        ended_goes start mirror apart disks ds texts g name x0 at0 mid others_stay (Called name action moment o) (reply_of o) first_tells
+        ended_goes start mirror apart disks ds g name x0 at0 mid others_stay (Called name action moment o) (reply_of o) (IsCallOn (mirror name) o name action moment (was name)) (λ es is. (is, refl)) first_tells
         (subst (λ (m : Option (List ℕ)). Tells (second_view m mid)) (sym none) refl)
-        (λ images others. (subst Ways (sym none) ended_ways) (somebody start mirror disks ds texts g name x0 at0 images others) sound_mid (images name).first (images name).second)
+        (λ images others. (subst Ways (sym none) ended_ways) (somebody start mirror disks ds g name x0 at0 images others) sound_mid (images name).first (images name).second)
 
     abbrev CutWays : Option (List ℕ) → Type 0
     CutWays m = (some : (f : Option (List ℕ)) (d : List ℕ) → MayBe (was name).may_leave (second_view m was).may_leave f d → Somebody name f d) → (f : Option (List ℕ)) (d : List ℕ)
@@ -181,7 +181,7 @@ module _ (known : Known) (undamaged : (image : List ℕ) (party : Party) (place 
     cut_ways : CutWays None
     cut_ways some = one_cut name action moment o is_action (was name) (mid name) made (sound name) some now_is.0 now_is.1
 
-    pub one_cut_off : (new : List ℕ → View) → PairOffWithin mirror name was mid new → GoesOn start mirror disks (ds ++ CutOff name action moment o ∷ []) (texts ++ []) new
+    pub one_cut_off : (new : List ℕ → View) → PairOffWithin mirror name was mid new → GoesOn start mirror disks (ds ++ CutOff name action moment o ∷ []) new
     one_cut_off new off =
-        cut_goes start mirror apart disks ds texts g name x0 at0 mid others_stay (CutOff name action moment o) new off
-        (λ images others. (subst CutWays (sym none) cut_ways) (somebody start mirror disks ds texts g name x0 at0 images others) (images name).first (images name).second)
+        cut_goes start mirror apart disks ds g name x0 at0 mid others_stay (CutOff name action moment o) (IsCutOn (mirror name) name action moment (was name)) (λ es is. (is, refl)) new off
+        (λ images others. (subst CutWays (sym none) cut_ways) (somebody start mirror disks ds g name x0 at0 images others) (images name).first (images name).second)

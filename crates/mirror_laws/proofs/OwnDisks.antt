@@ -1,12 +1,13 @@
 -- What is told of the second disk of a party: where it has none, what is told of a disk that is blank and stays so.
-use Rattle.std.proofs.Common.{◌≡◌, ◌≢◌, ℕ, Option, Some, None, List, [], refl, sym, ◌∙◌, ap}
+use Rattle.std.proofs.Common.{◌≡◌, ◌≢◌, ℕ, Option, Some, None, List, [], refl, sym, ◌∙◌, ap, subst}
 use Rattle.x_disk.specs.Disk.{View, IsSound, IsUntouched, Tells}
 use Rattle.x_disk.specs.Shelf.{IsAlike, alike_refl}
 use Rattle.x_disk.proofs.Alike.{untouched_self}
 use Rattle.member.specs.Member.{Member}
+use Rattle.disk_pair.specs.Pairs.{ThirdsStay}
 use Rattle.world_laws.specs.World.{World, member_at}
 use Rattle.call_laws.specs.Sessions.{IsOff}
-use Rattle.mirror_laws.specs.Sessions.{AllButOwnStay, HaveOwnDisks}
+use Rattle.mirror_laws.specs.Sessions.{AllButOwnStay, HaveOwnDisks, IsNobodys}
 
 abbrev pub no_disk : View
 no_disk = record {
@@ -58,18 +59,12 @@ pub second_untouched : (m : Option (List ℕ)) (old new : List ℕ → View) →
 second_untouched None old new untouched = untouched_self no_disk no_disk_sound
 second_untouched (Some second) old new untouched = untouched second refl
 
--- the disks that aren't the party's stay
-abbrev pub ButOwn : (List ℕ → Option (List ℕ)) → List ℕ → (List ℕ → View) → (List ℕ → View) → Type 0
-ButOwn mirror name old new = (other : List ℕ) → other ≢ name → mirror name ≢ Some other → IsAlike (old other) (new other)
+-- the disks of the other members stay
+pub record ButOwn (start : World) (mirror : List ℕ → Option (List ℕ)) (name : List ℕ) (old new : List ℕ → View) : Type 0 where
+  pub firsts : (q : List ℕ) (x : Member) → member_at q start.members ≡ Some x → q ≢ name → IsAlike (old q) (new q)
+  pub seconds : (q s : List ℕ) (x : Member) → member_at q start.members ≡ Some x → q ≢ name → mirror q ≡ Some s → IsAlike (old s) (new s)
 
-pub but_own : (mirror : List ℕ → Option (List ℕ)) (name : List ℕ) (old new : List ℕ → View) → AllButOwnStay (mirror name) name old new → ButOwn mirror name old new
-but_own mirror name old new stay = go (mirror name) refl stay
-  where
-    go : (m : Option (List ℕ)) → mirror name ≡ m → AllButOwnStay m name old new → ButOwn mirror name old new
-    go None none others other ne away = others other ne
-    go (Some second) has thirds other ne away = thirds other ne (λ is. away (has ∙ ap (λ (a : List ℕ). Some a) (sym is)))
-
--- the disks of other members are others
+-- they are others
 module _ (start : World) (mirror : List ℕ → Option (List ℕ)) (apart : HaveOwnDisks mirror start) (name : List ℕ) (x0 : Member) (at0 : member_at name start.members ≡ Some x0) where
   pub not_second : (q : List ℕ) (x : Member) → member_at q start.members ≡ Some x → mirror name ≢ Some q
   not_second q x h = apart.firsts q name x x0 h at0
@@ -79,3 +74,25 @@ module _ (start : World) (mirror : List ℕ → Option (List ℕ)) (apart : Have
 
   pub not_mirror : (q : List ℕ) (x : Member) → member_at q start.members ≡ Some x → q ≢ name → (s : List ℕ) → mirror q ≡ Some s → mirror name ≢ Some s
   not_mirror q x h ne s e = apart.seconds q name s x x0 h at0 ne e
+
+  module _ (old new : List ℕ → View) where
+    -- where all stay that aren't the party's
+    pub others_stay : ((other : List ℕ) → other ≢ name → mirror name ≢ Some other → IsAlike (old other) (new other)) → ButOwn start mirror name old new
+    others_stay thirds = record {
+      firsts = λ q x h ne. thirds q ne (not_second q x h);
+      seconds = λ q s x h ne e. thirds s (not_first q x h s e) (not_mirror q x h ne s e);
+    }
+
+    pub but_own : AllButOwnStay (mirror name) name old new → ButOwn start mirror name old new
+    but_own stay = others_stay (go (mirror name) refl stay)
+      where
+        go : (m : Option (List ℕ)) → mirror name ≡ m → AllButOwnStay m name old new → (other : List ℕ) → other ≢ name → mirror name ≢ Some other → IsAlike (old other) (new other)
+        go None none others other ne away = others other ne
+        go (Some second) has thirds other ne away = thirds other ne (λ is. away (has ∙ ap (λ (a : List ℕ). Some a) (sym is)))
+
+    -- where all stay but the party's and a file that is no disk of a member
+    pub but_nobodys : (file : List ℕ) → IsNobodys start mirror file → ThirdsStay name file old new → ButOwn start mirror name old new
+    but_nobodys file nobodys thirds = record {
+      firsts = λ q x h ne. thirds q ne (λ is. nobodys.no_first x (subst (λ (a : List ℕ). member_at a start.members ≡ Some x) is h));
+      seconds = λ q s x h ne e. thirds s (not_first q x h s e) (λ is. nobodys.no_second q x h (e ∙ ap (λ (a : List ℕ). Some a) is));
+    }

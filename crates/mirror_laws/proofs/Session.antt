@@ -21,9 +21,8 @@ use Rattle.world_laws.specs.Nodes.{IsEventOf, input_event}
 use Rattle.world_laws.specs.Starts.{HasAcceptedNothing, IsBareStart, IsStart}
 use Rattle.world_laws.specs.Laws.{OneKeyPerCount, Once, Agreement, EndedBoth}
 use Rattle.world_laws.proofs.Counting.Runs.{start_bare}
-use Rattle.call_laws.specs.Sessions.{reply_of}
 use Rattle.mirror_laws.specs.Runs.{FirstDisk, SecondDisk, PairEvent, pair_run, ArePairEvents, HonestPairRun}
-use Rattle.mirror_laws.specs.Sessions.{PairDeed, Called, CutOff, Shown, ShowCutOff, Tended, TendCutOff, Aside, PowerFails, Lost, HaveOwnDisks, StandsOnOwn, AllStandOnOwn, IsTurned, IsPairMade, IsMadeOn, IsPairCalled, PairOffWithin, IsDeedDone, AreDeedsDone, pair_deed_texts, pair_texts_in}
+use Rattle.mirror_laws.specs.Sessions.{PairDeed, Called, CutOff, Shown, ShowCutOff, Tended, TendCutOff, Batched, Aside, PowerFails, Lost, HaveOwnDisks, StandsOnOwn, AllStandOnOwn, IsTurned, IsPairMade, IsMadeOn, IsPairCalled, PairOffWithin, IsDeedDone, AreDeedsDone}
 use Rattle.mirror_laws.specs.Deeds.{RecoversAs, AreImagesOf, AllMayLeave, EndsAsPairDone, EndsOnAllImages}
 use Rattle.mirror_laws.proofs.Moves.{own_found}
 use Rattle.mirror_laws.proofs.Images.{Pair, StandsFor, MayBe, Known, told, both_stand}
@@ -32,6 +31,7 @@ use Rattle.mirror_laws.proofs.OneDisk.{alone_stands, stands_alone, one_called, o
 use Rattle.mirror_laws.proofs.CallsGo.{called, cut_off}
 use Rattle.mirror_laws.proofs.ShowsGo.{shows, show_cut_off}
 use Rattle.mirror_laws.proofs.TendsGo.{tends_first, first_cut_off, tends_second, second_cut_off}
+use Rattle.mirror_laws.proofs.BatchesGo.{batched}
 use Rattle.mirror_laws.proofs.AsidesGo.{aside}
 use Rattle.mirror_laws.proofs.LossesGo.{all_off, loses_first, loses_second}
 use Rattle.mirror_laws.proofs.OwnDisks.{second_view, but_own}
@@ -58,17 +58,18 @@ own_stand known (Some second) name disks x own on f d may =
     let second_now = told (disks second) on.second_tells in
     both_stand known (disks name) (disks second) x on.stand first_now.0 second_now.0 first_now.1 second_now.1 name own f d may
 
-start_goes : Known → (start : World) (mirror : List ℕ → Option (List ℕ)) (disks : ℕ → List ℕ → View) → AllStandOnOwn mirror (disks 0) start → GoesOn start mirror disks [] [] (disks 0)
+start_goes : Known → (start : World) (mirror : List ℕ → Option (List ℕ)) (disks : ℕ → List ℕ → View) → AllStandOnOwn mirror (disks 0) start → GoesOn start mirror disks [] (disks 0)
 start_goes known start mirror disks on = record {
   first_tells = λ q x h. first_on (mirror q) q (disks 0) x (on q x h);
   second_tells = λ q x h. second_on (mirror q) q (disks 0) x (on q x h);
   reach = begins;
 }
   where
-    begins : (images : List ℕ → Pair) → IsPossible start mirror (disks 0) images → Led start mirror disks [] [] images
+    begins : (images : List ℕ → Pair) → IsPossible start mirror (disks 0) images → Led start mirror disks [] images
     begins images possible = record {
       events = [];
-      of_deeds = refl;
+      texts = [];
+      of_deeds = (refl, refl);
       are_events = tt;
       at = record {
         stands = λ q x h. own_stand known (mirror q) q (disks 0) x (sym (own_found q start x h)) (on q x h) (images q).first (images q).second (possible q x h);
@@ -97,7 +98,7 @@ images_of : Known → (m : Option (List ℕ)) (name : List ℕ) (image : List �
 images_of known None name image x is = alone_stands known (image name) x is
 images_of known (Some second) name image x is = is
 
-end_goes : Known → Laws → (start : World) (mirror : List ℕ → Option (List ℕ)) (deeds : List PairDeed) (disks : ℕ → List ℕ → View) → IsStart start → GoesOn start mirror disks deeds (pair_texts_in deeds) (disks (length deeds))
+end_goes : Known → Laws → (start : World) (mirror : List ℕ → Option (List ℕ)) (deeds : List PairDeed) (disks : ℕ → List ℕ → View) → IsStart start → GoesOn start mirror disks deeds (disks (length deeds))
     → EndsOnAllImages start mirror deeds disks
 end_goes known laws start mirror deeds disks s g = record { first_tells = g.first_tells; second_tells = second_tells; ends = ends }
   where
@@ -106,10 +107,11 @@ end_goes known laws start mirror deeds disks s g = record { first_tells = g.firs
 
     ends : (image : List ℕ → List ℕ) → AllMayLeave mirror (disks (length deeds)) start image → EndsAsPairDone start mirror deeds disks image
     ends image may =
-        let r : Led start mirror disks deeds (pair_texts_in deeds) (λ q. record { first = Some (image q); second = second_of (mirror q) image }) =
+        let r : Led start mirror disks deeds (λ q. record { first = Some (image q); second = second_of (mirror q) image }) =
         g.reach (λ q. record { first = Some (image q); second = second_of (mirror q) image }) (λ q x h. ((may q x h).first, second_may (mirror q) (disks (length deeds)) image (may q x h).second)) in
         record {
           events = r.events;
+          texts = r.texts;
           of_deeds = r.of_deeds;
           are_events = r.are_events;
           images = λ q x h. images_of known (mirror q) q image x (r.at.stands q x h);
@@ -127,7 +129,7 @@ module _ (known : Known) (inputs : (x : Member) (i : Input) (moment : ℕ) → I
     (undamaged : (image : List ℕ) (party : Party) (place : ℕ) → Stands image party → IsFirstDamage image place → ⊥)
     (start : World) (mirror : List ℕ → Option (List ℕ)) (apart : HaveOwnDisks mirror start) (disks ends : ℕ → List ℕ → View) (sound : (k : ℕ) (q : List ℕ) → IsSound (disks k q)) where
   -- a deed goes on
-  module _ (ds : List PairDeed) (texts : List (List ℕ)) (g : GoesOn start mirror disks ds texts (disks (0 + length ds))) where
+  module _ (ds : List PairDeed) (g : GoesOn start mirror disks ds (disks (0 + length ds))) where
     abbrev was : List ℕ → View
     was = disks (0 + length ds)
 
@@ -136,70 +138,74 @@ module _ (known : Known) (inputs : (x : Member) (i : Input) (moment : ℕ) → I
     own_turn name second has i moment o new turned = subst (λ (m : Option (List ℕ)). IsTurned name i moment o (was name) (second_view m was) (new name) (second_view m new)) (sym has) turned
 
     by_pair : (name second : List ℕ) → mirror name ≡ Some second → (action : Action) (moment : ℕ) (o : Outcome) (new : List ℕ → View) → ((q : List ℕ) → IsSound (new q)) → IsPairCalled start mirror name action moment o was new
-        → IsPairMade name action moment o (was name) (was second) (new name) (new second) → GoesOn start mirror disks (ds ++ Called name action moment o ∷ []) (texts ++ reply_of o) new
+        → IsPairMade name action moment o (was name) (was second) (new name) (new second) → GoesOn start mirror disks (ds ++ Called name action moment o ∷ []) new
     by_pair name second has (Orders c) moment o new later is made =
-        called known inputs refusing one_pair refused start mirror apart disks ds texts g (sound (0 + length ds)) name second [] has (input.Ordered c) moment o is.is_action is.member is.at new (own_turn name second has (input.Ordered c) moment o new made) (but_own mirror name was new is.others) later
+        called known inputs refusing one_pair refused start mirror apart disks ds g (sound (0 + length ds)) name second [] has (input.Ordered c) moment o is.is_action is.member is.at new
+        (own_turn name second has (input.Ordered c) moment o new made) (but_own start mirror apart name is.member is.at was new is.others) later
     by_pair name second has (Hears bytes (Some a)) moment o new later is made =
-        called known inputs refusing one_pair refused start mirror apart disks ds texts g (sound (0 + length ds)) name second bytes has (input.Arrived a) moment o is.is_action is.member is.at new (own_turn name second has (input.Arrived a) moment o new made) (but_own mirror name was new is.others) later
+        called known inputs refusing one_pair refused start mirror apart disks ds g (sound (0 + length ds)) name second bytes has (input.Arrived a) moment o is.is_action is.member is.at new
+        (own_turn name second has (input.Arrived a) moment o new made) (but_own start mirror apart name is.member is.at was new is.others) later
     by_pair name second has (Hears bytes None) moment o new later is made = absurd made
     by_pair name second has Compacts moment o new later is made = absurd made
     by_pair name second has Migrates moment o new later is made = absurd made
 
     cut_pair : (name second : List ℕ) → mirror name ≡ Some second → (action : Action) (moment : ℕ) (o : Outcome) (mid new : List ℕ → View) → IsPairCalled start mirror name action moment o was mid → PairOffWithin mirror name was mid new
-        → IsPairMade name action moment o (was name) (was second) (mid name) (mid second) → GoesOn start mirror disks (ds ++ CutOff name action moment o ∷ []) (texts ++ []) new
+        → IsPairMade name action moment o (was name) (was second) (mid name) (mid second) → GoesOn start mirror disks (ds ++ CutOff name action moment o ∷ []) new
     cut_pair name second has (Orders c) moment o mid new is off made =
-        cut_off known inputs refusing one_pair refused start mirror apart disks ds texts g (sound (0 + length ds)) name second [] has (input.Ordered c) moment o is.is_action is.member is.at mid (own_turn name second has (input.Ordered c) moment o mid made) (but_own mirror name was mid is.others) new off
+        cut_off known inputs refusing one_pair refused start mirror apart disks ds g (sound (0 + length ds)) name second [] has (input.Ordered c) moment o is.is_action is.member is.at mid
+        (own_turn name second has (input.Ordered c) moment o mid made) (but_own start mirror apart name is.member is.at was mid is.others) new off
     cut_pair name second has (Hears bytes (Some a)) moment o mid new is off made =
-        cut_off known inputs refusing one_pair refused start mirror apart disks ds texts g (sound (0 + length ds)) name second bytes has (input.Arrived a) moment o is.is_action is.member is.at mid (own_turn name second has (input.Arrived a) moment o mid made) (but_own mirror name was mid is.others) new off
+        cut_off known inputs refusing one_pair refused start mirror apart disks ds g (sound (0 + length ds)) name second bytes has (input.Arrived a) moment o is.is_action is.member is.at mid
+        (own_turn name second has (input.Arrived a) moment o mid made) (but_own start mirror apart name is.member is.at was mid is.others) new off
     cut_pair name second has (Hears bytes None) moment o mid new is off made = absurd made
     cut_pair name second has Compacts moment o mid new is off made = absurd made
     cut_pair name second has Migrates moment o mid new is off made = absurd made
 
     by_call : (name : List ℕ) (action : Action) (moment : ℕ) (o : Outcome) (new : List ℕ → View) → ((q : List ℕ) → IsSound (new q)) → IsPairCalled start mirror name action moment o was new
-        → GoesOn start mirror disks (ds ++ Called name action moment o ∷ []) (texts ++ reply_of o) new
+        → GoesOn start mirror disks (ds ++ Called name action moment o ∷ []) new
     by_call name action moment o new later is = go (mirror name) refl is.made
       where
-        go : (m : Option (List ℕ)) → mirror name ≡ m → IsMadeOn m name action moment o was new → GoesOn start mirror disks (ds ++ Called name action moment o ∷ []) (texts ++ reply_of o) new
-        go None none made = one_called known undamaged start mirror apart disks ds texts g (sound (0 + length ds)) name none action moment o is.is_action is.member is.at new made (but_own mirror name was new is.others) (later name)
+        go : (m : Option (List ℕ)) → mirror name ≡ m → IsMadeOn m name action moment o was new → GoesOn start mirror disks (ds ++ Called name action moment o ∷ []) new
+        go None none made = one_called known undamaged start mirror apart disks ds g (sound (0 + length ds)) name none action moment o is.is_action is.member is.at new made
+            (but_own start mirror apart name is.member is.at was new is.others) (later name)
         go (Some second) has made = by_pair name second has action moment o new later is made
 
     by_cut : (name : List ℕ) (action : Action) (moment : ℕ) (o : Outcome) (mid new : List ℕ → View) → IsPairCalled start mirror name action moment o was mid → PairOffWithin mirror name was mid new
-        → GoesOn start mirror disks (ds ++ CutOff name action moment o ∷ []) (texts ++ []) new
+        → GoesOn start mirror disks (ds ++ CutOff name action moment o ∷ []) new
     by_cut name action moment o mid new is off = go (mirror name) refl is.made
       where
-        go : (m : Option (List ℕ)) → mirror name ≡ m → IsMadeOn m name action moment o was mid → GoesOn start mirror disks (ds ++ CutOff name action moment o ∷ []) (texts ++ []) new
-        go None none made = one_cut_off known undamaged start mirror apart disks ds texts g (sound (0 + length ds)) name none action moment o is.is_action is.member is.at mid made (but_own mirror name was mid is.others) new off
+        go : (m : Option (List ℕ)) → mirror name ≡ m → IsMadeOn m name action moment o was mid → GoesOn start mirror disks (ds ++ CutOff name action moment o ∷ []) new
+        go None none made = one_cut_off known undamaged start mirror apart disks ds g (sound (0 + length ds)) name none action moment o is.is_action is.member is.at mid made
+            (but_own start mirror apart name is.member is.at was mid is.others) new off
         go (Some second) has made = cut_pair name second has action moment o mid new is off made
 
-    deed_goes : (d : PairDeed) (mid new : List ℕ → View) → ((q : List ℕ) → IsSound (new q)) → IsDeedDone start mirror d (disks (0 + length ds)) mid new → GoesOn start mirror disks (ds ++ d ∷ []) (texts ++ pair_deed_texts d) new
+    deed_goes : (d : PairDeed) (mid new : List ℕ → View) → ((q : List ℕ) → IsSound (new q)) → IsDeedDone start mirror d (disks (0 + length ds)) mid new → GoesOn start mirror disks (ds ++ d ∷ []) new
     deed_goes (Called name action moment o) mid new later is = by_call name action moment o new later is
     deed_goes (CutOff name action moment o) mid new later is = by_cut name action moment o mid new is.0 is.1
-    deed_goes (Shown name) mid new later is = shows known start mirror apart disks ds texts g (sound (0 + length ds)) name new is later
-    deed_goes (ShowCutOff name) mid new later is = show_cut_off known start mirror apart disks ds texts g (sound (0 + length ds)) name mid is.0 new is.1
-    deed_goes (Tended name FirstDisk t moment o) mid new later is = tends_first known refused start mirror apart disks ds texts g (sound (0 + length ds)) name t moment o new is later
-    deed_goes (Tended name SecondDisk t moment o) mid new later is = tends_second known refused start mirror apart disks ds texts g (sound (0 + length ds)) name t moment o new is later
-    deed_goes (TendCutOff name FirstDisk t moment o) mid new later is = first_cut_off known refused start mirror apart disks ds texts g (sound (0 + length ds)) name t moment o mid is.0 new is.1
-    deed_goes (TendCutOff name SecondDisk t moment o) mid new later is = second_cut_off known refused start mirror apart disks ds texts g (sound (0 + length ds)) name t moment o mid is.0 new is.1
-    deed_goes Aside mid new later is = aside start mirror disks ds texts g new is
-    deed_goes PowerFails mid new later is = all_off start mirror disks ds texts g new is
-    deed_goes (Lost name FirstDisk) mid new later is = loses_first known start mirror apart disks ds texts g (sound (0 + length ds)) name new is
-    deed_goes (Lost name SecondDisk) mid new later is = loses_second known start mirror apart disks ds texts g (sound (0 + length ds)) name new is
+    deed_goes (Shown name) mid new later is = shows known start mirror apart disks ds g (sound (0 + length ds)) name new is later
+    deed_goes (ShowCutOff name) mid new later is = show_cut_off known start mirror apart disks ds g (sound (0 + length ds)) name mid is.0 new is.1
+    deed_goes (Tended name FirstDisk t moment o) mid new later is = tends_first known refused start mirror apart disks ds g (sound (0 + length ds)) name t moment o new is later
+    deed_goes (Tended name SecondDisk t moment o) mid new later is = tends_second known refused start mirror apart disks ds g (sound (0 + length ds)) name t moment o new is later
+    deed_goes (TendCutOff name FirstDisk t moment o) mid new later is = first_cut_off known refused start mirror apart disks ds g (sound (0 + length ds)) name t moment o mid is.0 new is.1
+    deed_goes (TendCutOff name SecondDisk t moment o) mid new later is = second_cut_off known refused start mirror apart disks ds g (sound (0 + length ds)) name t moment o mid is.0 new is.1
+    deed_goes (Batched name spool text entries o) mid new later is = batched known inputs start mirror apart disks ds g (sound (0 + length ds)) name spool text entries o new is
+    deed_goes Aside mid new later is = aside start mirror disks ds g new is
+    deed_goes PowerFails mid new later is = all_off start mirror disks ds g new is
+    deed_goes (Lost name FirstDisk) mid new later is = loses_first known start mirror apart disks ds g (sound (0 + length ds)) name new is
+    deed_goes (Lost name SecondDisk) mid new later is = loses_second known start mirror apart disks ds g (sound (0 + length ds)) name new is
 
-  deeds_go : (ds done : List PairDeed) (texts : List (List ℕ)) → GoesOn start mirror disks done texts (disks (0 + length done)) → AreDeedsDone start mirror ds (0 + length done) disks ends
-      → GoesOn start mirror disks (done ++ ds) (texts ++ pair_texts_in ds) (disks (0 + length (done ++ ds)))
-  deeds_go [] done texts g is =
-      subst (λ (cs : List PairDeed). GoesOn start mirror disks cs (texts ++ []) (disks (0 + length cs))) (sym (append-nil done))
-      (subst (λ (ts : List (List ℕ)). GoesOn start mirror disks done ts (disks (0 + length done))) (sym (append-nil texts)) g)
-  deeds_go (d ∷ ds) done texts g is =
+  deeds_go : (ds done : List PairDeed) → GoesOn start mirror disks done (disks (0 + length done)) → AreDeedsDone start mirror ds (0 + length done) disks ends
+      → GoesOn start mirror disks (done ++ ds) (disks (0 + length (done ++ ds)))
+  deeds_go [] done g is = subst (λ (cs : List PairDeed). GoesOn start mirror disks cs (disks (0 + length cs))) (sym (append-nil done)) g
+  deeds_go (d ∷ ds) done g is =
       let place : suc (0 + length done) ≡ 0 + length (done ++ d ∷ []) = omega (arith, length-append done (d ∷ [])) in
-      let next : GoesOn start mirror disks (done ++ d ∷ []) (texts ++ pair_deed_texts d) (disks (suc (0 + length done))) = deed_goes done texts g d (ends (0 + length done)) (disks (suc (0 + length done))) (sound (suc (0 + length done))) is.0 in
-      let rest = deeds_go ds (done ++ d ∷ []) (texts ++ pair_deed_texts d) (subst (λ (n : ℕ). GoesOn start mirror disks (done ++ d ∷ []) (texts ++ pair_deed_texts d) (disks n)) place next)
+      let next : GoesOn start mirror disks (done ++ d ∷ []) (disks (suc (0 + length done))) = deed_goes done g d (ends (0 + length done)) (disks (suc (0 + length done))) (sound (suc (0 + length done))) is.0 in
+      let rest = deeds_go ds (done ++ d ∷ []) (subst (λ (n : ℕ). GoesOn start mirror disks (done ++ d ∷ []) (disks n)) place next)
       (subst (λ (n : ℕ). AreDeedsDone start mirror ds n disks ends) place is.1) in
-      subst (λ (cs : List PairDeed). GoesOn start mirror disks cs (texts ++ pair_texts_in (d ∷ ds)) (disks (0 + length cs))) (append_assoc done (d ∷ []) ds)
-      (subst (λ (ts : List (List ℕ)). GoesOn start mirror disks ((done ++ d ∷ []) ++ ds) ts (disks (0 + length ((done ++ d ∷ []) ++ ds)))) (append_assoc texts (pair_deed_texts d) (pair_texts_in ds)) rest)
+      subst (λ (cs : List PairDeed). GoesOn start mirror disks cs (disks (0 + length cs))) (append_assoc done (d ∷ []) ds) rest
 
   pub session_is_done : Laws → (deeds : List PairDeed) → IsStart start → AllStandOnOwn mirror (disks 0) start → AreDeedsDone start mirror deeds 0 disks ends → EndsOnAllImages start mirror deeds disks
   session_is_done laws deeds s on is =
-      let g : GoesOn start mirror disks ([] ++ deeds) ([] ++ pair_texts_in deeds) (disks (0 + length ([] ++ deeds))) = deeds_go deeds [] [] (start_goes known start mirror disks on) is in
+      let g : GoesOn start mirror disks ([] ++ deeds) (disks (0 + length ([] ++ deeds))) = deeds_go deeds [] (start_goes known start mirror disks on) is in
       let place : 0 + length deeds ≡ length deeds = omega arith in
-      end_goes known laws start mirror deeds disks s (subst (λ (n : ℕ). GoesOn start mirror disks deeds (pair_texts_in deeds) (disks n)) place g)
+      end_goes known laws start mirror deeds disks s (subst (λ (n : ℕ). GoesOn start mirror disks deeds (disks n)) place g)

@@ -13,13 +13,13 @@ use Rattle.mirror_laws.proofs.Led.{GoesOn}
 use Rattle.mirror_laws.proofs.Asked.{OthersMay, somebody, ended_goes, cut_goes}
 use Rattle.mirror_laws.proofs.OwnDisks.{ButOwn, but_own, second_view, second_sound}
 
-module _ (known : Known) (start : World) (mirror : List ℕ → Option (List ℕ)) (apart : HaveOwnDisks mirror start) (disks : ℕ → List ℕ → View) (ds : List PairDeed) (texts : List (List ℕ)) (g : GoesOn start mirror disks ds texts (disks (0 + length ds)))
+module _ (known : Known) (start : World) (mirror : List ℕ → Option (List ℕ)) (apart : HaveOwnDisks mirror start) (disks : ℕ → List ℕ → View) (ds : List PairDeed) (g : GoesOn start mirror disks ds (disks (0 + length ds)))
     (sound : (q : List ℕ) → IsSound (disks (0 + length ds) q)) (name : List ℕ) (mid : List ℕ → View) (shown : IsPairShown start mirror name (disks (0 + length ds)) mid) where
   abbrev was : List ℕ → View
   was = disks (0 + length ds)
 
-  others_stay : ButOwn mirror name was mid
-  others_stay = but_own mirror name was mid shown.others
+  others_stay : ButOwn start mirror name was mid
+  others_stay = but_own start mirror apart name shown.member shown.at was mid shown.others
 
   safe : IsSafePair showing (was name) (second_view (mirror name) was) (mid name) (second_view (mirror name) mid)
   safe = subst (λ (m : Option (List ℕ)). IsSafePair showing (was name) (second_view m was) (mid name) (second_view m mid)) (sym shown.has) shown.safe
@@ -28,9 +28,9 @@ module _ (known : Known) (start : World) (mirror : List ℕ → Option (List ℕ
   now = reads_of (was name) (second_view (mirror name) was) (sound name) (second_sound (mirror name) was sound) (g.first_tells name shown.member shown.at) (g.second_tells name shown.member shown.at)
 
   -- with these images of the others
-  module _ (images : List ℕ → Pair) (others : OthersMay start mirror apart disks ds texts g name shown.member shown.at mid others_stay images) where
+  module _ (images : List ℕ → Pair) (others : OthersMay start mirror apart disks ds g name shown.member shown.at mid others_stay images) where
     abbrev some : (f : Option (List ℕ)) (d : List ℕ) → MayBe (was name).may_leave (second_view (mirror name) was).may_leave f d → Somebody name f d
-    some f d may = somebody start mirror disks ds texts g name shown.member shown.at images others f d may
+    some f d may = somebody start mirror disks ds g name shown.member shown.at images others f d may
 
     abbrev x : Member
     x = (some (Some now.was_first) now.was_second (now.first_may, now.second_may)).member
@@ -54,10 +54,10 @@ module _ (known : Known) (start : World) (mirror : List ℕ → Option (List ℕ
     ended_way sound_mid may =
         shown_way (left_at_end known showing name (was name) (second_view (mirror name) was) (mid name) (second_view (mirror name) mid) now safe some (sound_mid name) (second_sound (mirror name) mid sound_mid) f d may)
 
-  pub shows : ((q : List ℕ) → IsSound (mid q)) → GoesOn start mirror disks (ds ++ Shown name ∷ []) (texts ++ []) mid
+  pub shows : ((q : List ℕ) → IsSound (mid q)) → GoesOn start mirror disks (ds ++ Shown name ∷ []) mid
   shows sound_mid =
-      ended_goes start mirror apart disks ds texts g name shown.member shown.at mid others_stay (Shown name) [] (safe.first_tells ∙ g.first_tells name shown.member shown.at) (safe.second_tells ∙ g.second_tells name shown.member shown.at)
+      ended_goes start mirror apart disks ds g name shown.member shown.at mid others_stay (Shown name) [] (IsLostAgainOrNot name (was name)) (λ es is. (is, refl)) (safe.first_tells ∙ g.first_tells name shown.member shown.at) (safe.second_tells ∙ g.second_tells name shown.member shown.at)
       (λ images others. ended_way images others sound_mid)
 
-  pub show_cut_off : (new : List ℕ → View) → PairOffWithin mirror name was mid new → GoesOn start mirror disks (ds ++ ShowCutOff name ∷ []) (texts ++ []) new
-  show_cut_off new off = cut_goes start mirror apart disks ds texts g name shown.member shown.at mid others_stay (ShowCutOff name) new off shown_way
+  pub show_cut_off : (new : List ℕ → View) → PairOffWithin mirror name was mid new → GoesOn start mirror disks (ds ++ ShowCutOff name ∷ []) new
+  show_cut_off new off = cut_goes start mirror apart disks ds g name shown.member shown.at mid others_stay (ShowCutOff name) (IsLostAgainOrNot name (was name)) (λ es is. (is, refl)) new off shown_way

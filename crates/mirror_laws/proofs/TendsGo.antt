@@ -24,7 +24,7 @@ use Rattle.mirror_laws.proofs.Images.{Pair, MayBe, IsLike, Known, told, fewer, s
 use Rattle.mirror_laws.proofs.Ways.{Somebody, Way}
 use Rattle.mirror_laws.proofs.Led.{GoesOn}
 use Rattle.mirror_laws.proofs.Asked.{OthersMay, somebody, ended_goes, cut_goes}
-use Rattle.mirror_laws.proofs.OwnDisks.{ButOwn, second_view, second_sound, second_alike, not_second, not_first}
+use Rattle.mirror_laws.proofs.OwnDisks.{ButOwn, second_view, second_sound, second_alike, not_second, not_first, others_stay}
 use Rattle.mirror_laws.proofs.Tending.{IsSameOr, leaves_same, second_way, since_way, wiped_way, cut_way, ended_way}
 
 -- ---- what the call that tends a disk promises of it, whichever it is
@@ -74,7 +74,7 @@ same_name : (a b : List ℕ) → Some a ≡ Some b → a ≡ b
 same_name a b e = cc e
 
 module _ (known : Known) (refused : (i j : List ℕ) (p : Party) (reason : PairCause) → Recovers i j p → IsPairRefusal i j reason → IsPairFailure p reason)
-    (start : World) (mirror : List ℕ → Option (List ℕ)) (apart : HaveOwnDisks mirror start) (disks : ℕ → List ℕ → View) (ds : List PairDeed) (texts : List (List ℕ)) (g : GoesOn start mirror disks ds texts (disks (0 + length ds)))
+    (start : World) (mirror : List ℕ → Option (List ℕ)) (apart : HaveOwnDisks mirror start) (disks : ℕ → List ℕ → View) (ds : List PairDeed) (g : GoesOn start mirror disks ds (disks (0 + length ds)))
     (sound : (q : List ℕ) → IsSound (disks (0 + length ds) q)) (name : List ℕ) (t : Tending) (moment : ℕ) (o : Outcome) (mid : List ℕ → View) where
   abbrev was : List ℕ → View
   was = disks (0 + length ds)
@@ -90,8 +90,8 @@ module _ (known : Known) (refused : (i j : List ℕ) (p : Party) (reason : PairC
     others : OthersStay name was mid
     others = subst (λ (q : List ℕ). OthersStay q was mid) (sym is_own) tended.others
 
-    but_first : ButOwn mirror name was mid
-    but_first other ne away = others other ne
+    but_first : ButOwn start mirror name was mid
+    but_first = others_stay start mirror apart name tended.member tended.at was mid (λ other ne away. others other ne)
 
     second_stays : IsUntouched (second_view (mirror name) was) (second_view (mirror name) mid)
     second_stays =
@@ -107,28 +107,28 @@ module _ (known : Known) (refused : (i j : List ℕ) (p : Party) (reason : PairC
     first_told : Tells (mid name)
     first_told = tended_tells t o (was name) (mid name) made ∙ g.first_tells name tended.member tended.at
 
-    pub tends_first : ((q : List ℕ) → IsSound (mid q)) → GoesOn start mirror disks (ds ++ Tended name FirstDisk t moment o ∷ []) (texts ++ []) mid
+    pub tends_first : ((q : List ℕ) → IsSound (mid q)) → GoesOn start mirror disks (ds ++ Tended name FirstDisk t moment o ∷ []) mid
     tends_first sound_mid =
-        ended_goes start mirror apart disks ds texts g name tended.member tended.at mid but_first (Tended name FirstDisk t moment o) [] first_told
+        ended_goes start mirror apart disks ds g name tended.member tended.at mid but_first (Tended name FirstDisk t moment o) [] (IsTendingOf FirstDisk t o name moment) (λ es is. (is, refl)) first_told
         (ap is_some second_stays.now ∙ g.second_tells name tended.member tended.at) ways
       where
-        ways : (images : List ℕ → Pair) (beside : OthersMay start mirror apart disks ds texts g name tended.member tended.at mid but_first images)
+        ways : (images : List ℕ → Pair) (beside : OthersMay start mirror apart disks ds g name tended.member tended.at mid but_first images)
             → MayBe (mid name).may_leave (second_view (mirror name) mid).may_leave (images name).first (images name).second
-            → Way name (was name).may_leave (second_view (mirror name) was).may_leave (somebody start mirror disks ds texts g name tended.member tended.at images beside) [] (IsTendingOf FirstDisk t o name moment) (images name).first (images name).second
+            → Way name (was name).may_leave (second_view (mirror name) was).may_leave (somebody start mirror disks ds g name tended.member tended.at images beside) [] (IsTendingOf FirstDisk t o name moment) (images name).first (images name).second
         ways images beside may =
-            first_ended known refused name moment o (was name) (second_view (mirror name) was) (mid name) (somebody start mirror disks ds texts g name tended.member tended.at images beside) first_now.0 first_now.1 first_may
+            first_ended known refused name moment o (was name) (second_view (mirror name) was) (mid name) (somebody start mirror disks ds g name tended.member tended.at images beside) first_now.0 first_now.1 first_may
             (images name).first (images name).second (sound_mid name) first_told
             (fewer (mid name).may_leave (second_view (mirror name) mid).may_leave (mid name).may_leave (second_view (mirror name) was).may_leave (λ c left. left) second_stays.images (images name).first (images name).second may)
             t made
 
-    pub first_cut_off : (new : List ℕ → View) → PairOffWithin mirror name was mid new → GoesOn start mirror disks (ds ++ TendCutOff name FirstDisk t moment o ∷ []) (texts ++ []) new
-    first_cut_off new off = cut_goes start mirror apart disks ds texts g name tended.member tended.at mid but_first (TendCutOff name FirstDisk t moment o) new off ways
+    pub first_cut_off : (new : List ℕ → View) → PairOffWithin mirror name was mid new → GoesOn start mirror disks (ds ++ TendCutOff name FirstDisk t moment o ∷ []) new
+    first_cut_off new off = cut_goes start mirror apart disks ds g name tended.member tended.at mid but_first (TendCutOff name FirstDisk t moment o) (IsCutTendingOf FirstDisk t name moment) (λ es is. (is, refl)) new off ways
       where
-        ways : (images : List ℕ → Pair) (beside : OthersMay start mirror apart disks ds texts g name tended.member tended.at mid but_first images)
+        ways : (images : List ℕ → Pair) (beside : OthersMay start mirror apart disks ds g name tended.member tended.at mid but_first images)
             → MayBe ((mid name).left_since (was name).moment) ((second_view (mirror name) mid).left_since (second_view (mirror name) was).moment) (images name).first (images name).second
-            → Way name (was name).may_leave (second_view (mirror name) was).may_leave (somebody start mirror disks ds texts g name tended.member tended.at images beside) [] (IsCutTendingOf FirstDisk t name moment) (images name).first (images name).second
+            → Way name (was name).may_leave (second_view (mirror name) was).may_leave (somebody start mirror disks ds g name tended.member tended.at images beside) [] (IsCutTendingOf FirstDisk t name moment) (images name).first (images name).second
         ways images beside since =
-            first_cut known refused name moment o (was name) (second_view (mirror name) was) (mid name) (somebody start mirror disks ds texts g name tended.member tended.at images beside) first_now.0 first_now.1 first_may
+            first_cut known refused name moment o (was name) (second_view (mirror name) was) (mid name) (somebody start mirror disks ds g name tended.member tended.at images beside) first_now.0 first_now.1 first_may
             (images name).first (images name).second t made
             (fewer ((mid name).left_since (was name).moment) ((second_view (mirror name) mid).left_since (second_view (mirror name) was).moment) ((mid name).left_since (was name).moment) (second_view (mirror name) was).may_leave
             (λ c left. left) second_stays.any_moment.each (images name).first (images name).second since)
@@ -138,8 +138,8 @@ module _ (known : Known) (refused : (i j : List ℕ) (p : Party) (reason : PairC
     made_second : IsTendedDisk t o (second_view (mirror name) was) (second_view (mirror name) mid)
     made_second = subst (λ (m : Option (List ℕ)). IsTendedDisk t o (second_view m was) (second_view m mid)) (sym tended.own) tended.made
 
-    but_second : ButOwn mirror name was mid
-    but_second other ne away = tended.others other (λ is. away (tended.own ∙ ap (λ (a : List ℕ). Some a) (sym is)))
+    but_second : ButOwn start mirror name was mid
+    but_second = others_stay start mirror apart name tended.member tended.at was mid (λ other ne away. tended.others other (λ is. away (tended.own ∙ ap (λ (a : List ℕ). Some a) (sym is))))
 
     first_alike : IsAlike (was name) (mid name)
     first_alike = tended.others name (λ is. not_second start mirror apart name tended.member tended.at name tended.member tended.at (tended.own ∙ ap (λ (a : List ℕ). Some a) (sym is)))
@@ -157,9 +157,9 @@ module _ (known : Known) (refused : (i j : List ℕ) (p : Party) (reason : PairC
     second_may = (second_sound (mirror name) was sound).now_among second_now.0 second_now.1
 
     -- with these images of the others
-    module _ (images : List ℕ → Pair) (beside : OthersMay start mirror apart disks ds texts g name tended.member tended.at mid but_second images) where
+    module _ (images : List ℕ → Pair) (beside : OthersMay start mirror apart disks ds g name tended.member tended.at mid but_second images) where
       abbrev some : (f : Option (List ℕ)) (d : List ℕ) → MayBe (was name).may_leave (second_view (mirror name) was).may_leave f d → Somebody name f d
-      some f d may = somebody start mirror disks ds texts g name tended.member tended.at images beside f d may
+      some f d may = somebody start mirror disks ds g name tended.member tended.at images beside f d may
 
       abbrev IsNone : List PairEvent → Type 0
       IsNone es = es ≡ []
@@ -188,10 +188,10 @@ module _ (known : Known) (refused : (i j : List ℕ) (p : Party) (reason : PairC
           by_same (fewer (mid name).may_leave (second_view (mirror name) mid).may_leave (was name).may_leave (IsSameOr second_now.0 (second_view (mirror name) was).may_leave) first_stays.images
           (λ d left. same.each d ((second_sound (mirror name) mid sound_mid).counts_now (second_view (mirror name) was).moment d same.later left)) (images name).first (images name).second may)
 
-    pub tends_second : ((q : List ℕ) → IsSound (mid q)) → GoesOn start mirror disks (ds ++ Tended name SecondDisk t moment o ∷ []) (texts ++ []) mid
+    pub tends_second : ((q : List ℕ) → IsSound (mid q)) → GoesOn start mirror disks (ds ++ Tended name SecondDisk t moment o ∷ []) mid
     tends_second sound_mid =
-        ended_goes start mirror apart disks ds texts g name tended.member tended.at mid but_second (Tended name SecondDisk t moment o) [] (ap is_some first_stays.now ∙ g.first_tells name tended.member tended.at)
+        ended_goes start mirror apart disks ds g name tended.member tended.at mid but_second (Tended name SecondDisk t moment o) [] (λ es. es ≡ []) (λ es is. (is, refl)) (ap is_some first_stays.now ∙ g.first_tells name tended.member tended.at)
         (tended_tells t o (second_view (mirror name) was) (second_view (mirror name) mid) made_second ∙ g.second_tells name tended.member tended.at) (λ images beside. second_ended images beside sound_mid)
 
-    pub second_cut_off : (new : List ℕ → View) → PairOffWithin mirror name was mid new → GoesOn start mirror disks (ds ++ TendCutOff name SecondDisk t moment o ∷ []) (texts ++ []) new
-    second_cut_off new off = cut_goes start mirror apart disks ds texts g name tended.member tended.at mid but_second (TendCutOff name SecondDisk t moment o) new off second_cut
+    pub second_cut_off : (new : List ℕ → View) → PairOffWithin mirror name was mid new → GoesOn start mirror disks (ds ++ TendCutOff name SecondDisk t moment o ∷ []) new
+    second_cut_off new off = cut_goes start mirror apart disks ds g name tended.member tended.at mid but_second (TendCutOff name SecondDisk t moment o) (λ es. es ≡ []) (λ es is. (is, refl)) new off second_cut

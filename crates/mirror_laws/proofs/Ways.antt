@@ -183,3 +183,12 @@ way_more name P Q some texts are more by f d way = record {
   possible = way.possible;
   going = record { events = way.going.events; is = by way.going.events way.going.is; are_events = way.going.are_events; arrives = way.going.arrives };
 }
+
+-- a way by some texts, which are those of its events
+pub record SomeWay (name : List ℕ) (P Q : List ℕ → Type 0) (some : (f : Option (List ℕ)) (d : List ℕ) → MayBe P Q f d → Somebody name f d) (are : List PairEvent → List (List ℕ) → Type 0) (f : Option (List ℕ)) (d : List ℕ) : Type 0 where
+  pub texts : List (List ℕ)
+  pub way : Way name P Q some texts (λ es. are es texts) f d
+
+pub some_way : (name : List ℕ) (P Q : List ℕ → Type 0) (some : (f : Option (List ℕ)) (d : List ℕ) → MayBe P Q f d → Somebody name f d) (texts : List (List ℕ)) (are : List PairEvent → Type 0) (more : List PairEvent → List (List ℕ) → Type 0)
+    → ((es : List PairEvent) → are es → more es texts) → (f : Option (List ℕ)) (d : List ℕ) → Way name P Q some texts are f d → SomeWay name P Q some more f d
+some_way name P Q some texts are more by f d way = record { texts = texts; way = way_more name P Q some texts are (λ es. more es texts) by f d way }

@@ -1,5 +1,5 @@
 -- Which events a batch at a party is (this project's profile).
-use Rattle.std.specs.Prelude.{◌≡◌, ◌⊎◌, ⊥, ℕ, Option, Some, List, [], ◌∷◌, ◌++◌, length, map, option_to_list, unwrap_or, Err}
+use Rattle.std.specs.Prelude.{◌≡◌, ◌⊎◌, ℕ, Option, Some, List, [], ◌∷◌, ◌++◌, length, map, option_to_list, unwrap_or, Err}
 use Rattle.csm_grammar.specs.declared.arrival.Arrival.{Arrival}
 use Rattle.csm_feed.specs.declared.unheard.Unheard.{Unheard}
 use Rattle.csm_feed.specs.Heard.{Heard}

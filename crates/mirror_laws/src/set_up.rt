@@ -38,8 +38,8 @@ pub fn law_mirror_set_up<H: Shelf>()
 }
 
 /// A session over one disk or two each from nothing: parties are created and key-encrypting keys are loaded at both ends, each over
-/// all the party's disks, and then anything is done that `law_mirror_deeds` speaks of. It ends as that law says, and the start of its
-/// run is the network that was set up.
+/// all the party's disks, and then anything is done that `law_mirror_deeds` speaks of, batches too. It ends as that law says, and the
+/// start of its run is the network that was set up.
 pub fn law_mirror_from_nothing<H: Shelf>()
     ensures { (keys : List SharedKey) (mirror : List ℕ → Option (List ℕ)) (calls : List SetUp) (deeds : List PairDeed) (shelves ends : ℕ → H) → KeepsRules keys calls → HaveOwnDisks mirror (network_of calls)
         → AllTellOnOwn mirror (names_in calls) (H.entry (shelves 0)) → AreSetUpOn mirror [] calls 0 (λ k. H.entry (shelves k))
