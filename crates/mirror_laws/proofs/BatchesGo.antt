@@ -15,7 +15,7 @@ use Rattle.x_spool.specs.declared.outcome.SpoolOutcome.TheVariants as spooling
 use Rattle.world_laws.specs.World.{World}
 use Rattle.world_laws.specs.Nodes.{IsEventOf, input_event}
 use Rattle.mirror_laws.specs.Runs.{PairEvent}
-use Rattle.mirror_laws.specs.Sessions.{PairDeed, Batched, HaveOwnDisks, IsBatched}
+use Rattle.mirror_laws.specs.Sessions.{PairDeed, Batched, HaveOwnDisks, IsBatchTaken}
 use Rattle.mirror_laws.specs.Batches.{IsPartBatch, IsBatchOf}
 use Rattle.mirror_laws.proofs.Images.{MayBe, Known, told}
 use Rattle.mirror_laws.proofs.Ways.{Somebody, SomeWay, untouched_way}
@@ -103,7 +103,7 @@ module _ (known : Known) (inputs : (x : Member) (i : Input) (moment : ℕ) → I
   -- in a session
   module _ (start : World) (mirror : List ℕ → Option (List ℕ)) (apart : HaveOwnDisks mirror start) (disks : ℕ → List ℕ → View) (ds : List PairDeed) (g : GoesOn start mirror disks ds (disks (0 + length ds)))
       (sound : (q : List ℕ) → IsSound (disks (0 + length ds) q)) (name spool text : List ℕ) (entries : List Entry) (o : SpoolOutcome) (mid : List ℕ → View)
-      (is : IsBatched start mirror name spool text entries o (disks (0 + length ds)) mid) where
+      (is : IsBatchTaken start mirror name spool text entries o (disks (0 + length ds)) mid) where
     abbrev was : List ℕ → View
     was = disks (0 + length ds)
 

@@ -132,7 +132,7 @@ pub record IsNobodys (start : World) (mirror : List ℕ → Option (List ℕ)) (
 
 -- a batch is taken at a member that keeps one disk, beside a spool on a file that is no disk of a member; all others stay. A failure of
 -- power amid it is a call of a disk that is begun and fails, as each one behind it does, and a failure of power when it has ended
-pub record IsBatched (start : World) (mirror : List ℕ → Option (List ℕ)) (name spool text : List ℕ) (entries : List Entry) (o : SpoolOutcome) (old new : List ℕ → View) : Type 0 where
+pub record IsBatchTaken (start : World) (mirror : List ℕ → Option (List ℕ)) (name spool text : List ℕ) (entries : List Entry) (o : SpoolOutcome) (old new : List ℕ → View) : Type 0 where
   pub member : Member
   pub at : member_at name start.members ≡ Some member
   pub alone : mirror name ≡ None
@@ -186,7 +186,7 @@ IsDeedDone start mirror (Shown name) old mid new = IsPairShown start mirror name
 IsDeedDone start mirror (ShowCutOff name) old mid new = IsPairShown start mirror name old mid × PairOffWithin mirror name old mid new
 IsDeedDone start mirror (Tended name which t moment o) old mid new = IsTended start mirror name which t o old new
 IsDeedDone start mirror (TendCutOff name which t moment o) old mid new = IsTended start mirror name which t o old mid × PairOffWithin mirror name old mid new
-IsDeedDone start mirror (Batched name spool text entries o) old mid new = IsBatched start mirror name spool text entries o old new
+IsDeedDone start mirror (Batched name spool text entries o) old mid new = IsBatchTaken start mirror name spool text entries o old new
 IsDeedDone start mirror Aside old mid new = IsAside start mirror old new
 IsDeedDone start mirror PowerFails old mid new = AllOwnOff start mirror old new
 IsDeedDone start mirror (Lost name which) old mid new = IsLost start mirror name which old new
