@@ -1,17 +1,17 @@
 -- How a batch goes on from where its party stands, whoever commanded that before (this project's profile).
-use Rattle.std.specs.Prelude.{◌≡◌, ◌⊎◌, ℕ, List, ◌++◌, length, drop}
+use Rattle.std.specs.Prelude.{◌≡◌, ◌≢◌, ◌⊎◌, ℕ, List, [], ◌∷◌, ◌++◌, length, drop}
 use Rattle.x_disk.specs.Disk.{View, Tells}
 use Rattle.key_store.specs.Store.{Stored}
 use Rattle.member.specs.Member.{Member}
 use Rattle.node_core.specs.Turns.{member_of, IsImageOf}
 use Rattle.csm_batch.specs.declared.entry.Entry.{Entry}
 use Rattle.spool_store.specs.declared.entry_plan.EntryPlan.{EntryPlan}
-use Rattle.spool_store.specs.Contents.{Progress}
+use Rattle.spool_store.specs.Contents.{Progress, HoldsPlans}
 use Rattle.spool_store.specs.Spools.{Spooled}
 use Rattle.csm_spool.specs.declared.outcome.Driven.{Driven}
 use Rattle.csm_spool.specs.declared.outcome.Driven.TheVariants.{Done, OutOfStep, NodeBroken, SpoolBroken, NoMemory}
 use Rattle.csm_spool.specs.Courses.{EntriesLead}
-use Rattle.csm_spool.specs.Drives.{party_disk}
+use Rattle.csm_spool.specs.Drives.{party_disk, spool_disk}
 use Rattle.csm_spool.specs.Catching.{CatchesUp}
 
 -- the entries behind the plans that stand
@@ -25,8 +25,19 @@ pub record GoesOn (x : Member) (p : Progress) (more : List EntryPlan) (y : Membe
   pub course : EntriesLead there (open_entries p) more y
 
 -- the member is as it was, or has gone on so
-abbrev pub HasGoneOn : Member → Progress → Member → Type 0
-HasGoneOn x p y = (y ≡ x) ⊎ ((more : List EntryPlan) × GoesOn x p more y)
+abbrev pub HasGoneOn : Member → Progress → List EntryPlan → Member → Type 0
+HasGoneOn x p more y = ((y ≡ x) × (more ≡ [])) ⊎ GoesOn x p more y
+
+-- plans that are kept where a party went on by all of these: all, or all but the last one, which changes nothing, or one more, which
+-- changes something
+abbrev pub AreKept : List EntryPlan → List EntryPlan → Type 0
+AreKept all plans = (plans ≡ all) ⊎ (((last : EntryPlan) × (last.change ≡ []) × (all ≡ plans ++ last ∷ [])) ⊎ ((last : EntryPlan) × (last.change ≢ []) × (plans ≡ all ++ last ∷ [])))
+
+-- the image holds the batch, the plans that stood, and such ones behind them
+pub record HoldsKept (p : Progress) (more : List EntryPlan) (book : List ℕ) : Type 0 where
+  pub plans : List EntryPlan
+  pub are : AreKept more plans
+  pub holds : HoldsPlans book (record { text = p.text; entries = p.entries; plans = p.plans ++ plans })
 
 -- the plans that stood stay in front, and the member has gone on by all others
 pub record HasGoneThrough (x : Member) (old new : Progress) (y : Member) : Type 0 where
@@ -42,18 +53,22 @@ GoesThrough x old (NodeBroken b new) = Unit {0}
 GoesThrough x old (SpoolBroken after b) = Unit {0}
 GoesThrough x old (NoMemory after new) = Unit {0}
 
--- the image stands for the member as it was, or as it has gone on
-pub record IsLeftGoing (x : Member) (p : Progress) (image : List ℕ) : Type 0 where
+-- the image stands for the member as it was, or as it has gone on; and each image that a crash may leave of a spool's disk that tells
+-- holds the plans by which it has
+pub record IsLeftGoing (x : Member) (p : Progress) (spool spool_after : View) (image : List ℕ) : Type 0 where
+  pub more : List EntryPlan
   pub member : Member
-  pub way : HasGoneOn x p member
+  pub way : HasGoneOn x p more member
   pub stands : IsImageOf member image
+  pub kept : Tells spool → (book : List ℕ) → spool_after.may_leave book → HoldsKept p more book
 
 -- what became of a batch: whatever came, each image that a crash may leave of a party's disk that tells is such a one
-pub record GoesAnyhow {D E : Type 0} (told_party : D → View) (node : Stored D) (old : Spooled E) (result : Driven D E) : Type 0 where
+pub record GoesAnyhow {D E : Type 0} (told_party : D → View) (told_spool : E → View) (node : Stored D) (old : Spooled E) (result : Driven D E) : Type 0 where
   pub through : GoesThrough (member_of node) old.progress result
-  pub left : Tells (told_party node.disk) → (c : List ℕ) → (told_party (party_disk result)).may_leave c → IsLeftGoing (member_of node) old.progress c
+  pub left : Tells (told_party node.disk) → (c : List ℕ) → (told_party (party_disk result)).may_leave c
+      → IsLeftGoing (member_of node) old.progress (told_spool old.disk) (told_spool (spool_disk result)) c
 
--- from a party that carries out no plan any more
+-- from a party that is behind the plans that stood
 
 -- the plans that stood stay in front, and the entries behind lead by all others
 pub record HasRunThrough (x : Member) (old new : Progress) (y : Member) : Type 0 where
@@ -68,12 +83,14 @@ RunsThrough x old (NodeBroken b new) = Unit {0}
 RunsThrough x old (SpoolBroken after b) = Unit {0}
 RunsThrough x old (NoMemory after new) = Unit {0}
 
-pub record IsLeftRunning (x : Member) (p : Progress) (image : List ℕ) : Type 0 where
-  pub member : Member
+pub record IsLeftRunning (x : Member) (p : Progress) (spool spool_after : View) (image : List ℕ) : Type 0 where
   pub more : List EntryPlan
+  pub member : Member
   pub course : EntriesLead x (open_entries p) more member
   pub stands : IsImageOf member image
+  pub kept : Tells spool → (book : List ℕ) → spool_after.may_leave book → HoldsKept p more book
 
-pub record RunsAnyhow {D E : Type 0} (told_party : D → View) (node : Stored D) (old : Spooled E) (result : Driven D E) : Type 0 where
+pub record RunsAnyhow {D E : Type 0} (told_party : D → View) (told_spool : E → View) (node : Stored D) (old : Spooled E) (result : Driven D E) : Type 0 where
   pub through : RunsThrough (member_of node) old.progress result
-  pub left : Tells (told_party node.disk) → (c : List ℕ) → (told_party (party_disk result)).may_leave c → IsLeftRunning (member_of node) old.progress c
+  pub left : Tells (told_party node.disk) → (c : List ℕ) → (told_party (party_disk result)).may_leave c
+      → IsLeftRunning (member_of node) old.progress (told_spool old.disk) (told_spool (spool_disk result)) c

@@ -1,22 +1,29 @@
 -- Which events a batch at a party is (this project's profile).
-use Rattle.std.specs.Prelude.{◌≡◌, ◌⊎◌, ℕ, Option, Some, List, [], ◌∷◌, ◌++◌, length, map, option_to_list, unwrap_or, Err}
+use Rattle.std.specs.Prelude.{◌≡◌, ◌≢◌, ◌⊎◌, ℕ, Option, Some, List, [], ◌∷◌, ◌++◌, length, map, option_to_list, unwrap_or, Err}
+use Rattle.x_disk.specs.Disk.{View, Tells}
 use Rattle.csm_grammar.specs.declared.arrival.Arrival.{Arrival}
 use Rattle.csm_feed.specs.declared.unheard.Unheard.{Unheard}
 use Rattle.csm_feed.specs.Heard.{Heard}
+use Rattle.member.specs.Member.{Member}
 use Rattle.csm_batch.specs.declared.entry.Entry.{Entry}
 use Rattle.spool_store.specs.declared.entry_plan.EntryPlan.{EntryPlan}
 use Rattle.spool_store.specs.Spools.{outbox_of}
-use Rattle.csm_spool.specs.Courses.{IsHeard}
+use Rattle.csm_spool.specs.Courses.{IsHeard, EntriesLead}
+use Rattle.csm_spool.specs.Planning.{plan_of_unheard}
+use Rattle.csm_spool.specs.Going.{HoldsKept}
+use Rattle.x_spool.specs.Outcomes.{progress_of}
+use Rattle.x_spool.specs.Onward.{HeldThese, IsUnplanned}
 use Rattle.x_spool.specs.declared.outcome.SpoolOutcome.{SpoolOutcome}
 use Rattle.x_spool.specs.declared.outcome.SpoolOutcome.TheVariants as spooling
 use Rattle.world_laws.specs.Events.{Hears, Event, Whole}
 use Rattle.call_laws.specs.Deeds.{event_of}
 use Rattle.mirror_laws.specs.Runs.{PairEvent, Happens}
 
--- no message is heard of the entry: no event, and nothing is written
-pub record IsNoArrival (e : Entry) (events : List Event) (texts : List (List ℕ)) : Type 0 where
+-- no message is heard of the entry, as its plan says: no event, and nothing is written
+pub record IsNoArrival (e : Entry) (plan : EntryPlan) (events : List Event) (texts : List (List ℕ)) : Type 0 where
   pub unheard : Unheard
   pub heard : Heard e.bytes (Err unheard)
+  pub planned : plan ≡ plan_of_unheard unheard
   pub none : events ≡ []
   pub silent : texts ≡ []
 
@@ -31,7 +38,7 @@ pub record IsArrivalOf (name : List ℕ) (e : Entry) (plan : EntryPlan) (events 
 
 -- the events of an entry that is carried out by this plan, and the texts that are written then
 abbrev pub IsOfEntry : List ℕ → Entry → EntryPlan → List Event → List (List ℕ) → Type 0
-IsOfEntry name e plan events texts = IsNoArrival e events texts ⊎ IsArrivalOf name e plan events texts
+IsOfEntry name e plan events texts = IsNoArrival e plan events texts ⊎ IsArrivalOf name e plan events texts
 
 -- they are those of the first entry, and then those of the others
 pub record IsEntryFollowed (first_is rest : List Event → List (List ℕ) → Type 0) (events : List Event) (texts : List (List ℕ)) : Type 0 where
@@ -57,27 +64,51 @@ pub record IsStretch (name : List ℕ) (entries : List Entry) (stood plans : Lis
   pub done : List Entry
   pub place : length front ≡ length stood
   pub split : entries ≡ front ++ (done ++ behind)
+  -- at a member that they lead on, each by its plan
+  pub from : Member
+  pub to : Member
+  pub course : EntriesLead from done plans to
   pub events : List Event
   pub are : AreOfEntries name done plans events texts
   pub whole : es ≡ map Happens events
 
--- a batch that is done: all entries from some place on, and the outbox of all plans is handed out
-pub record IsWholeBatch (name : List ℕ) (entries : List Entry) (out : List ℕ) (es : List PairEvent) (texts : List (List ℕ)) : Type 0 where
-  pub stood : List EntryPlan
-  pub plans : List EntryPlan
-  pub stretch : IsStretch name entries stood plans [] es texts
-  pub outbox : out ≡ outbox_of (stood ++ plans)
+-- it begins with the last one of the plans that stood, which changes something
+pub record IsFromLast (name : List ℕ) (entries : List Entry) (stood more : List EntryPlan) (behind : List Entry) (es : List PairEvent) (texts : List (List ℕ)) : Type 0 where
+  pub front : List EntryPlan
+  pub last : EntryPlan
+  pub split : stood ≡ front ++ last ∷ []
+  pub changes : last.change ≢ []
+  pub stretch : IsStretch name entries front (last ∷ more) behind es texts
 
--- one that failed: some of them
-pub record IsPartBatch (name : List ℕ) (entries : List Entry) (es : List PairEvent) (texts : List (List ℕ)) : Type 0 where
+-- the stretch is that of these further plans, or begins with the last one that stood
+abbrev pub IsOnward : List ℕ → List Entry → List EntryPlan → List EntryPlan → List Entry → List PairEvent → List (List ℕ) → Type 0
+IsOnward name entries stood more behind es texts = IsStretch name entries stood more behind es texts ⊎ IsFromLast name entries stood more behind es texts
+
+-- a batch that is done goes on from the plans that the spool's image holds to its end, and the outbox of all plans is handed out
+pub record IsWholeBatch (name text : List ℕ) (entries : List Entry) (spool : View) (out : List ℕ) (es : List PairEvent) (texts : List (List ℕ)) : Type 0 where
   pub stood : List EntryPlan
-  pub plans : List EntryPlan
+  pub held : HeldThese text entries spool stood
+  pub more : List EntryPlan
+  pub course : IsOnward name entries stood more [] es texts
+  pub outbox : out ≡ outbox_of (stood ++ more)
+
+-- one that failed goes on from them, by some of the other entries or by none; and each image that a crash may leave of a spool's disk
+-- that tells holds the plans of these entries
+pub record IsBegunBatch (name text : List ℕ) (entries : List Entry) (spool spool_after : View) (es : List PairEvent) (texts : List (List ℕ)) : Type 0 where
+  pub stood : List EntryPlan
+  pub held : HeldThese text entries spool stood
+  pub more : List EntryPlan
   pub behind : List Entry
-  pub stretch : IsStretch name entries stood plans behind es texts
+  pub course : ((es ≡ []) × (texts ≡ []) × (more ≡ [])) ⊎ IsOnward name entries stood more behind es texts
+  pub kept : Tells spool → (book : List ℕ) → spool_after.may_leave book → HoldsKept (progress_of text entries stood) more book
 
--- of a batch that is refused there is no event
-abbrev pub IsBatchOf : List ℕ → List Entry → SpoolOutcome → List PairEvent → List (List ℕ) → Type 0
-IsBatchOf name entries (spooling.Done out) es texts = IsWholeBatch name entries out es texts
-IsBatchOf name entries spooling.Fault es texts = IsPartBatch name entries es texts
-IsBatchOf name entries spooling.NoMemory es texts = IsPartBatch name entries es texts
-IsBatchOf name entries other es texts = (es ≡ []) × (texts ≡ [])
+-- or it failed before an entry was planned
+abbrev pub IsPartBatch : List ℕ → List ℕ → List Entry → View → View → List PairEvent → List (List ℕ) → Type 0
+IsPartBatch name text entries spool spool_after es texts = ((es ≡ []) × (texts ≡ []) × IsUnplanned text entries spool spool_after) ⊎ IsBegunBatch name text entries spool spool_after es texts
+
+-- of a batch that is refused there is no event. `spool` and `spool_after` are what is told of the spool's disk before and after
+abbrev pub IsBatchOf : List ℕ → List ℕ → List Entry → View → View → SpoolOutcome → List PairEvent → List (List ℕ) → Type 0
+IsBatchOf name text entries spool spool_after (spooling.Done out) es texts = IsWholeBatch name text entries spool out es texts
+IsBatchOf name text entries spool spool_after spooling.Fault es texts = IsPartBatch name text entries spool spool_after es texts
+IsBatchOf name text entries spool spool_after spooling.NoMemory es texts = IsPartBatch name text entries spool spool_after es texts
+IsBatchOf name text entries spool spool_after other es texts = (es ≡ []) × (texts ≡ [])

@@ -130,15 +130,16 @@ pub record IsNobodys (start : World) (mirror : List ℕ → Option (List ℕ)) (
   pub no_first : (x : Member) → member_at file start.members ≢ Some x
   pub no_second : (name : List ℕ) (x : Member) → member_at name start.members ≡ Some x → mirror name ≢ Some file
 
--- a batch is taken at a member that keeps one disk, beside a spool on a file that is no disk of a member; all others stay. A failure of
--- power amid it is a call of a disk that is begun and fails, as each one behind it does, and a failure of power when it has ended
+-- a batch is taken at a member that keeps one disk, beside a spool on a file that is no disk of a member; all others stay. There is no
+-- deed in which the power fails amid a batch: that is one with a fault, as each call of a disk fails from some moment on, and a failure
+-- of power behind it
 pub record IsBatchTaken (start : World) (mirror : List ℕ → Option (List ℕ)) (name spool text : List ℕ) (entries : List Entry) (o : SpoolOutcome) (old new : List ℕ → View) : Type 0 where
   pub member : Member
   pub at : member_at name start.members ≡ Some member
   pub alone : mirror name ≡ None
   pub nobodys : IsNobodys start mirror spool
   pub made : MakesBatch name text entries (old name) (old spool) (new name) (new spool) o
-  pub onward : GoesOnward name text entries (old name) (old spool) (new name) o
+  pub onward : GoesOnward name text entries (old name) (old spool) (new name) (new spool) o
   pub tells : is_some (new name).now ≡ is_some (old name).now
   pub others : ThirdsStay name spool old new
 

@@ -55,7 +55,7 @@ pub record IsSpooling (party spool text : List ℕ) (entries : List Entry) (old 
   pub outcome : SpoolOutcome
   pub made : MakesBatch party text entries (old party) (old spool) (new party) (new spool) outcome
   pub in_step : StaysInStep party text entries (old party) (old spool) (new party) (new spool) outcome
-  pub onward : GoesOnward party text entries (old party) (old spool) (new party) outcome
+  pub onward : GoesOnward party text entries (old party) (old spool) (new party) (new spool) outcome
   pub ends : EndsBatch outcome s before after
 
 -- no batch was taken: the source failed, or no memory was left, or this line is the first that no batch has
