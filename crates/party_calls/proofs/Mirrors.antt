@@ -51,11 +51,11 @@ finished_of_two o party mirror s is_back unread old new outcome ending before af
 
 module _ (t : PartyCommand) (mirror : List ℕ) where
   -- the turn with this command is what the order does
-  abbrev pub DoesCommand : Order → Option PartyCommand → Type 0
+  abbrev pub DoesCommand : Order → Option PartyCommand → Type 1
   DoesCommand o x = (moment : ℕ) (s : Status) (left rest before after : Option (List ℕ)) (old new : List ℕ → View) → ObeysMirroredCommand x mirror moment old new s before after → ObeysMirrored o mirror moment s left rest before after old new
 
   -- an order of two disks is this command of a party, which isn't the second disk
-  pub record IsCommandOfTwo (o : Order) : Type 0 where
+  pub record IsCommandOfTwo (o : Order) : Type 1 where
     pub apart : t.party ≢ mirror
     pub obeys : DoesCommand o (Some t)
 
