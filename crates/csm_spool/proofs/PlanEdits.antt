@@ -59,6 +59,18 @@ none_left n = omega arith
 pub after_none : (x : Member) → after x [] ≡ x
 after_none x = ap (λ (r : ℕ). let y : Member = record { party = x.party; space = record { format = x.space.format; room = r } } in y) (none_left x.space.room)
 
+-- only no edits have nothing for their code
+no_edits : (es : List Edit) → code_or_nothing es ≡ [] → es ≡ []
+no_edits [] none = refl
+no_edits (e ∷ es) none = absurd (cc none)
+
+-- a plan without a change leaves the member as it is
+pub unchanged : (here there : Member) (e : Entry) (p : EntryPlan) → EntryLeads here e p there → p.change ≡ [] → there ≡ here
+unchanged here there e p (inl r) none = r.stays
+unchanged here there e p (inr r) none =
+    let nothing : (plan_for here r.arrival e).edits ≡ [] = no_edits (plan_for here r.arrival e).edits (sym (ap (λ (q : EntryPlan). q.change) r.plan) ∙ none) in
+    r.after ∙ (ap (after here) nothing ∙ after_none here)
+
 module _ (undone : Undone) (done : Done) (ranged : Ranged) (one : OneChange) (there here : Member) (e : Entry) (p : EntryPlan) where
   of_refusal : IsRefusal there e p here → IsSettledOnlyBehind there here p
   of_refusal r = record {

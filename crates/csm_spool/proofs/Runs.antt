@@ -1,5 +1,5 @@
 -- The rest of a batch, from a party that is behind the plans that stand.
-use Rattle.std.proofs.Common.{◌≡◌, inl, inr, ℕ, zero, suc, ◌+◌, ◌<◌, ◌≤◌, List, [], ◌∷◌, ◌++◌, length, drop, slice_get, Some, refl, sym, ap, subst, ◌∙◌, arith, append-nil, append_assoc, length-append}
+use Rattle.std.proofs.Common.{◌≡◌, ◌≢◌, ◌⊎◌, inl, inr, ℕ, zero, suc, ◌+◌, ◌<◌, ◌≤◌, List, [], ◌∷◌, ◌++◌, length, drop, slice_get, Some, refl, sym, ap, subst, ◌∙◌, arith, append-nil, append_assoc, length-append}
 use Rattle.x_base.specs.Edge.{Rose}
 use Rattle.x_disk.specs.Disk.{View, Tells}
 use Rattle.x_disk.specs.declared.disk.DiskErr.{DiskErr}
@@ -15,12 +15,13 @@ use Rattle.csm_spool.specs.Courses.{EntriesLead}
 use Rattle.csm_spool.specs.InStep.{InStep}
 use Rattle.spool_store.specs.Committing.{HoldsEither}
 use Rattle.csm_spool.specs.Drives.{KeepsBoth, IsRun}
-use Rattle.csm_spool.specs.Going.{open_entries, IsLeftRunning, RunsAnyhow}
+use Rattle.csm_spool.specs.Going.{open_entries, AreKept, HoldsKept, IsLeftRunning, RunsAnyhow}
 use Rattle.spool_store.specs.Spools.{Spooled, IsSpool}
 use Rattle.csm_spool.specs.Stepping.{IsNext, IsOn, IsNodeCut, IsSpoolCut}
 use Rattle.csm_spool.proofs.Steps.{course_on, commit, carried, at_rest}
 use Rattle.csm_spool.proofs.Images.{party_images, spool_images}
 use Rattle.csm_spool.proofs.Entries.{within}
+use Rattle.csm_spool.proofs.PlanEdits.{unchanged}
 
 pub rose_later : (a b c : ℕ) → a ≤ b → Rose b c → Rose a c
 rose_later a b c le (inl less) = inl (omega (arith, le, less))
@@ -36,6 +37,10 @@ keeps_on p s p1 s1 p2 s2 a b = record {
 
 pub cause_on : (v0 v1 v2 : View) (cause : DiskErr) → v0.faults ≤ v1.faults → FaultsRose v1 v2 cause → FaultsRose v0 v2 cause
 cause_on v0 v1 v2 cause le rose = record { later = omega (arith, le, rose.later); fault = λ is. rose_later v0.faults v1.faults v2.faults le (rose.fault is) }
+
+none_or_some : (l : List ℕ) → (l ≡ []) ⊎ (l ≢ [])
+none_or_some [] = inl refl
+none_or_some (b ∷ l) = inr (λ is. absurd (cc is))
 
 -- an entry behind the first ones
 behind : (entries : List Entry) (k n m : ℕ) (e : Entry) → m ≡ k + n → slice_get entries m ≡ Some e → slice_get (drop k entries) n ≡ Some e
@@ -169,34 +174,105 @@ module _ {D E : Type 0} (told : D → View) (told_spool : E → View) (first : S
 
     -- whoever commanded the party before
 
-    -- an image of the party that stands
-    left_at : (after : Stored D) → member_of after ≡ member_of node → IsStore (told after.disk) after.gate after.end after.format after.party → Tells (told after.disk) → (c : List ℕ) → (told after.disk).may_leave c → IsLeftRunning (member_of first) old.progress c
-    left_at after same store tells c at = record {
-      member = member_of node;
+    -- the batch, with these plans behind those that stood
+    abbrev behind_old : List EntryPlan → Progress
+    behind_old plans = record { text = old.progress.text; entries = old.progress.entries; plans = old.progress.plans ++ plans }
+
+    stands_as : spool.progress ≡ behind_old run.onward.0
+    stands_as = now_is ∙ ap (λ (l : List EntryPlan). let p : Progress = record { text = old.progress.text; entries = old.progress.entries; plans = l } in p) run.onward.1
+
+    one_more : (plan : EntryPlan) → with_plan spool.progress plan ≡ behind_old (run.onward.0 ++ plan ∷ [])
+    one_more plan =
+        ap (λ (p : Progress). with_plan p plan) stands_as
+        ∙ ap (λ (l : List EntryPlan). let p : Progress = record { text = old.progress.text; entries = old.progress.entries; plans = l } in p) (append_assoc old.progress.plans run.onward.0 (plan ∷ []))
+
+    -- an image that holds these plans behind those that stood
+    held : (more plans : List EntryPlan) → AreKept more plans → (p : Progress) → p ≡ behind_old plans → (book : List ℕ) → HoldsPlans book p → HoldsKept old.progress more book
+    held more plans are p same book holds = record { plans = plans; are = are; holds = subst (HoldsPlans book) same holds }
+
+    -- an image of the party and of the spool that stand
+    left_at : (after : Stored D) (new : Spooled E) → member_of after ≡ member_of node → new.progress ≡ spool.progress → IsStore (told after.disk) after.gate after.end after.format after.party → IsSpool (told_spool new.disk) new.gate new.end new.progress
+        → Tells (told after.disk) → (Tells (told_spool old.disk) → Tells (told_spool new.disk)) → (c : List ℕ) → (told after.disk).may_leave c → IsLeftRunning (member_of first) old.progress (told_spool old.disk) (told_spool new.disk) c
+    left_at after new same still store kept tells spool_tells c at = record {
       more = run.onward.0;
+      member = member_of node;
       course = run.onward.2;
       stands = subst (λ (m : Member). IsImageOf m c) same (party_images told after store tells c at);
+      kept = λ was book left. held run.onward.0 run.onward.0 (inl refl) new.progress (still ∙ stands_as) book (spool_images (told_spool new.disk) new.gate new.end new.progress kept (spool_tells was) book left);
     }
 
-    pub ends_anyhow : IsStore (told node.disk) node.gate node.end node.format node.party → RunsAnyhow told first old (drive.Done node spool)
-    ends_anyhow store = record {
+    pub ends_anyhow : IsStore (told node.disk) node.gate node.end node.format node.party → IsSpool (told_spool spool.disk) spool.gate spool.end spool.progress → RunsAnyhow told told_spool first old (drive.Done node spool)
+    ends_anyhow store kept = record {
       through = record { more = run.onward.0; split = run.onward.1; course = run.onward.2 };
-      left = λ tells c at. left_at node refl store (run.keeps.party_tells ∙ tells) c at;
+      left = λ tells c at. left_at node spool refl refl store kept (run.keeps.party_tells ∙ tells) (λ was. run.keeps.spool_tells ∙ was) c at;
     }
 
-    pub halted_anyhow : (after : Stored D) (new : Spooled E) → after ≡ node → IsStore (told after.disk) after.gate after.end after.format after.party
-        → KeepsBoth (told node.disk) (told_spool spool.disk) (told after.disk) (told_spool new.disk) → RunsAnyhow told first old (drive.NoMemory after new)
-    halted_anyhow after new same store keeps = record { through = tt; left = λ tells c at. left_at after (ap member_of same) store (keeps.party_tells ∙ (run.keeps.party_tells ∙ tells)) c at }
-
-    pub node_broken_anyhow : (broken : Failed D) (new : Spooled E) → IsNodeCut told node spool broken new → RunsAnyhow told first old (drive.NodeBroken broken new)
-    node_broken_anyhow broken new h = record {
+    pub halted_anyhow : (after : Stored D) (new : Spooled E) → after ≡ node → new ≡ spool → IsStore (told after.disk) after.gate after.end after.format after.party → IsSpool (told_spool new.disk) new.gate new.end new.progress
+        → KeepsBoth (told node.disk) (told_spool spool.disk) (told after.disk) (told_spool new.disk) → RunsAnyhow told told_spool first old (drive.NoMemory after new)
+    halted_anyhow after new same still_spool store kept keeps = record {
       through = tt;
-      left = λ tells c at. elim (h.leaves (run.keeps.party_tells ∙ tells) c at) [
-        | inl before ↦ record { member = member_of node; more = run.onward.0; course = run.onward.2; stands = before }
-        | inr there ↦ record { member = h.there; more = run.onward.0 ++ h.plan ∷ []; course = leads_on h.there h.plan h.next; stands = there }
-      ];
+      left = λ tells c at.
+          left_at after new (ap member_of same) (ap (λ (s : Spooled E). s.progress) still_spool) store kept (keeps.party_tells ∙ (run.keeps.party_tells ∙ tells)) (λ was. keeps.spool_tells ∙ (run.keeps.spool_tells ∙ was)) c at;
     }
 
-    pub spool_broken_anyhow : (after : Stored D) (broken : Failed E) → IsSpoolCut told_spool node spool after broken → IsStore (told after.disk) after.gate after.end after.format after.party
-        → KeepsBoth (told node.disk) (told_spool spool.disk) (told after.disk) (told_spool broken.disk) → RunsAnyhow told first old (drive.SpoolBroken after broken)
-    spool_broken_anyhow after broken h store keeps = record { through = tt; left = λ tells c at. left_at after (ap member_of h.same) store (keeps.party_tells ∙ (run.keeps.party_tells ∙ tells)) c at }
+    -- the party's disk failed, and the spool stands with the plan
+    module _ (broken : Failed D) (new : Spooled E) (h : IsNodeCut told node spool broken new) (kept : IsSpool (told_spool new.disk) new.gate new.end new.progress) (keeps : KeepsBoth (told node.disk) (told_spool spool.disk) (told broken.disk) (told_spool new.disk)) where
+      holds_plan : Tells (told_spool old.disk) → (book : List ℕ) → (told_spool new.disk).may_leave book → HoldsPlans book (with_plan spool.progress h.plan)
+      holds_plan was book left = subst (HoldsPlans book) h.goes (spool_images (told_spool new.disk) new.gate new.end new.progress kept (keeps.spool_tells ∙ (run.keeps.spool_tells ∙ was)) book left)
+
+      -- the image stands for the member behind the plan
+      left_there : (c : List ℕ) → IsImageOf h.there c → IsLeftRunning (member_of first) old.progress (told_spool old.disk) (told_spool new.disk) c
+      left_there c there = record {
+        more = run.onward.0 ++ h.plan ∷ [];
+        member = h.there;
+        course = leads_on h.there h.plan h.next;
+        stands = there;
+        kept = λ was book left. held (run.onward.0 ++ h.plan ∷ []) (run.onward.0 ++ h.plan ∷ []) (inl refl) (with_plan spool.progress h.plan) (one_more h.plan) book (holds_plan was book left);
+      }
+
+      -- it stands for the member before it, which is the one behind it where nothing changes
+      left_here : (c : List ℕ) → IsImageOf (member_of node) c → (h.plan.change ≡ []) ⊎ (h.plan.change ≢ []) → IsLeftRunning (member_of first) old.progress (told_spool old.disk) (told_spool new.disk) c
+      left_here c here (inl none) = left_there c (subst (λ (m : Member). IsImageOf m c) (sym (unchanged (member_of node) h.there h.next.entry h.plan h.next.leads none)) here)
+      left_here c here (inr some) = record {
+        more = run.onward.0;
+        member = member_of node;
+        course = run.onward.2;
+        stands = here;
+        kept = λ was book left. held run.onward.0 (run.onward.0 ++ h.plan ∷ []) (inr (inr (h.plan, some, refl))) (with_plan spool.progress h.plan) (one_more h.plan) book (holds_plan was book left);
+      }
+
+      pub node_broken_anyhow : RunsAnyhow told told_spool first old (drive.NodeBroken broken new)
+      node_broken_anyhow = record {
+        through = tt;
+        left = λ tells c at. elim (h.leaves (run.keeps.party_tells ∙ tells) c at) [ inl here ↦ left_here c here (none_or_some h.plan.change) | inr there ↦ left_there c there ];
+      }
+
+    -- the spool's disk failed: its images hold the plan or not
+    module _ (after : Stored D) (broken : Failed E) (h : IsSpoolCut told_spool node spool after broken) (store : IsStore (told after.disk) after.gate after.end after.format after.party)
+        (keeps : KeepsBoth (told node.disk) (told_spool spool.disk) (told after.disk) (told_spool broken.disk)) where
+      held_either : (more : List EntryPlan) → AreKept more run.onward.0 → AreKept more (run.onward.0 ++ h.plan ∷ []) → (book : List ℕ) → HoldsEither spool.progress h.plan book → HoldsKept old.progress more book
+      held_either more without with_it book (inl holds) = held more run.onward.0 without spool.progress stands_as book holds
+      held_either more without with_it book (inr holds) = held more (run.onward.0 ++ h.plan ∷ []) with_it (with_plan spool.progress h.plan) (one_more h.plan) book holds
+
+      left_cut : (c : List ℕ) → IsImageOf (member_of node) c → (h.plan.change ≡ []) ⊎ (h.plan.change ≢ []) → IsLeftRunning (member_of first) old.progress (told_spool old.disk) (told_spool broken.disk) c
+      left_cut c here (inl none) = record {
+        more = run.onward.0 ++ h.plan ∷ [];
+        member = h.there;
+        course = leads_on h.there h.plan h.next;
+        stands = subst (λ (m : Member). IsImageOf m c) (sym (unchanged (member_of node) h.there h.next.entry h.plan h.next.leads none)) here;
+        kept = λ was book left. held_either (run.onward.0 ++ h.plan ∷ []) (inr (inl (h.plan, none, refl))) (inl refl) book (h.leaves (run.keeps.spool_tells ∙ was) book left);
+      }
+      left_cut c here (inr some) = record {
+        more = run.onward.0;
+        member = member_of node;
+        course = run.onward.2;
+        stands = here;
+        kept = λ was book left. held_either run.onward.0 (inl refl) (inr (inr (h.plan, some, refl))) book (h.leaves (run.keeps.spool_tells ∙ was) book left);
+      }
+
+      pub spool_broken_anyhow : RunsAnyhow told told_spool first old (drive.SpoolBroken after broken)
+      spool_broken_anyhow = record {
+        through = tt;
+        left = λ tells c at.
+            left_cut c (subst (λ (n : Stored D). IsImageOf (member_of n) c) h.same (party_images told after store (keeps.party_tells ∙ (run.keeps.party_tells ∙ tells)) c at)) (none_or_some h.plan.change);
+      }

@@ -16,7 +16,7 @@ use x_disk::Disk;
 /// From a party that is behind the plans that stand to the end of the batch.
 fn run_on<D: Disk, E: Disk>(alloc: Global, node: Node<D>, spool: Spool<E>) -> Driven<D, E>
     ensures run { IsRun D.told E.told node spool result }
-    ensures anyhow { RunsAnyhow D.told node spool result }
+    ensures anyhow { RunsAnyhow D.told E.told node spool result }
 {
     let mut node = node;
     let mut spool = spool;
@@ -52,10 +52,11 @@ fn run_on<D: Disk, E: Disk>(alloc: Global, node: Node<D>, spool: Spool<E>) -> Dr
 /// Takes up the last plan again where it isn't carried out, and then plans and carries out entry by entry to the end of the
 /// batch. The plan of an entry is on the spool's disk before the party's disk is written. Whoever commanded the party before: a
 /// batch that is done went on from where the party stood, and whatever came, each image that a crash may leave of the party's
-/// disk stands for the party as it was, or as it went on so.
+/// disk stands for the party as it was, or as it went on so; and each one of the spool's disk holds the plans by which it did: all,
+/// or all but the last one, which changes nothing, or one more, which changes something.
 pub fn drive<D: Disk, E: Disk>(alloc: Global, node: Node<D>, spool: Spool<E>) -> Driven<D, E>
     ensures drive { IsDrive D.told E.told node spool result }
-    ensures anyhow { GoesAnyhow D.told node spool result }
+    ensures anyhow { GoesAnyhow D.told E.told node spool result }
 {
     law_one_finding();
     journal_state::law_one_finding::<Contents>();

@@ -44,10 +44,10 @@ pub returns-in-Behind-clause-anyhow : goal.returns-in-Behind-clause-anyhow
 returns-in-Behind-clause-anyhow g c = onward.behind g.D.Disk.told g.E.Disk.told c.args.node c.args.spool c.in-Behind.node c.in-Behind.spool c.in-Behind.ensures c.run_on.result c.run_on.ensures.anyhow
 
 pub returns-in-OutOfStep-clause-anyhow : goal.returns-in-OutOfStep-clause-anyhow
-returns-in-OutOfStep-clause-anyhow g c = onward.out g.D.Disk.told g.E.Disk.told c.args.node c.args.spool c.view.ensures.stands c.in-OutOfStep.node c.in-OutOfStep.spool c.plan_count-entry.result c.in-OutOfStep.ensures
+returns-in-OutOfStep-clause-anyhow g c = onward.out g.D.Disk.told g.E.Disk.told c.args.node c.args.spool c.progress.ensures.spool c.view.ensures.stands c.in-OutOfStep.node c.in-OutOfStep.spool c.plan_count-entry.result c.in-OutOfStep.ensures
 
 pub returns-in-NodeBroken-clause-anyhow : goal.returns-in-NodeBroken-clause-anyhow
-returns-in-NodeBroken-clause-anyhow g c = onward.broken g.D.Disk.told g.E.Disk.told c.args.node c.args.spool c.in-NodeBroken.broken c.in-NodeBroken.spool c.in-NodeBroken.ensures
+returns-in-NodeBroken-clause-anyhow g c = onward.broken g.D.Disk.told g.E.Disk.told c.args.node c.args.spool c.progress.ensures.spool c.in-NodeBroken.broken c.in-NodeBroken.spool c.in-NodeBroken.ensures
 
 pub returns-in-NoMemory-clause-anyhow : goal.returns-in-NoMemory-clause-anyhow
-returns-in-NoMemory-clause-anyhow g c = onward.halted g.D.Disk.told g.E.Disk.told c.args.node c.args.spool c.view.ensures.stands c.in-NoMemory.node c.in-NoMemory.spool c.in-NoMemory.ensures
+returns-in-NoMemory-clause-anyhow g c = onward.halted g.D.Disk.told g.E.Disk.told c.args.node c.args.spool c.progress.ensures.spool c.view.ensures.stands c.in-NoMemory.node c.in-NoMemory.spool c.in-NoMemory.ensures

@@ -31,7 +31,9 @@ returns-clause-run g c =
     (subst (λ p. length p.entries ≤ length p.plans) c.progress.ensures.progress (ltb-false (length c.progress.result.now.plans) (length c.progress.result.now.entries) (sym c.has_next.ensures ∙ c.running-test.false)))
 
 pub returns-in-NodeBroken-clause-anyhow : goal.returns-in-NodeBroken-clause-anyhow
-returns-in-NodeBroken-clause-anyhow g c = node_broken_anyhow g.D.Disk.told g.E.Disk.told c.args.node c.args.spool c.running.node c.running.spool c.running.invariant c.in-NodeBroken.broken c.in-NodeBroken.spool c.in-NodeBroken.ensures.answer
+returns-in-NodeBroken-clause-anyhow g c =
+    node_broken_anyhow g.D.Disk.told g.E.Disk.told c.args.node c.args.spool c.running.node c.running.spool c.running.invariant c.in-NodeBroken.broken c.in-NodeBroken.spool c.in-NodeBroken.ensures.answer
+    c.progress-in-NodeBroken.ensures.spool c.in-NodeBroken.ensures.keeps
 
 pub returns-in-SpoolBroken-clause-anyhow : goal.returns-in-SpoolBroken-clause-anyhow
 returns-in-SpoolBroken-clause-anyhow g c =
@@ -39,7 +41,8 @@ returns-in-SpoolBroken-clause-anyhow g c =
 
 pub returns-in-NoMemory-clause-anyhow : goal.returns-in-NoMemory-clause-anyhow
 returns-in-NoMemory-clause-anyhow g c =
-    halted_anyhow g.D.Disk.told g.E.Disk.told c.args.node c.args.spool c.running.node c.running.spool c.running.invariant c.in-NoMemory.node c.in-NoMemory.spool c.in-NoMemory.ensures.answer.0 c.view-in-NoMemory.ensures.stands c.in-NoMemory.ensures.keeps
+    halted_anyhow g.D.Disk.told g.E.Disk.told c.args.node c.args.spool c.running.node c.running.spool c.running.invariant c.in-NoMemory.node c.in-NoMemory.spool c.in-NoMemory.ensures.answer.0 c.in-NoMemory.ensures.answer.1
+    c.view-in-NoMemory.ensures.stands c.progress-in-NoMemory.ensures.spool c.in-NoMemory.ensures.keeps
 
 pub returns-clause-anyhow : goal.returns-clause-anyhow
-returns-clause-anyhow g c = ends_anyhow g.D.Disk.told g.E.Disk.told c.args.node c.args.spool c.running.node c.running.spool c.running.invariant c.view-2.ensures.stands
+returns-clause-anyhow g c = ends_anyhow g.D.Disk.told g.E.Disk.told c.args.node c.args.spool c.running.node c.running.spool c.running.invariant c.view-2.ensures.stands c.progress-2.ensures.spool
