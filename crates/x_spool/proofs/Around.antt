@@ -34,12 +34,12 @@ module _ (name text : List ℕ) (entries : List Entry) (party_disk spool_disk pa
   failed_makes : (o : SpoolOutcome) → IsFailure o → MakesBatch name text entries party_disk spool_disk party_after spool_after o
   failed_makes o is = record { due = λ image book now told_book answered. absurd (unanswered o is answered); left = failed_left o is }
 
-  failed_whole : (o : SpoolOutcome) → IsFailure o → (x : Member) → AnswersWhole text entries spool_disk party_after x o
-  failed_whole o (inl is) x = subst (AnswersWhole text entries spool_disk party_after x) (sym is) tt
-  failed_whole o (inr is) x = subst (AnswersWhole text entries spool_disk party_after x) (sym is) tt
+  failed_whole : (o : SpoolOutcome) → IsFailure o → (x : Member) → AnswersWhole text entries spool_disk party_after spool_after x o
+  failed_whole o (inl is) x = subst (AnswersWhole text entries spool_disk party_after spool_after x) (sym is) tt
+  failed_whole o (inr is) x = subst (AnswersWhole text entries spool_disk party_after spool_after x) (sym is) tt
 
-  -- what is left of the party's disk is left whatever is told
-  failed_onward : (o result : SpoolOutcome) → IsFailure result → GoesOnward name text entries party_disk spool_disk party_after o → GoesOnward name text entries party_disk spool_disk party_after result
+  -- what is left of the two disks is left whatever is told
+  failed_onward : (o result : SpoolOutcome) → IsFailure result → GoesOnward name text entries party_disk spool_disk party_after spool_after o → GoesOnward name text entries party_disk spool_disk party_after spool_after result
   failed_onward o result is goes = record { answers = λ image x now finds. failed_whole result is x; left = goes.left }
 
   failed_done : (o : SpoolOutcome) → IsFailure o → IsDoneOrFailed o
@@ -74,9 +74,10 @@ module _ {D : Type 0} (told : D → View) (text : List ℕ) (entries : List Entr
         spool_tells = ap is_some out.second_stays.now;
       }
 
-  pub unfetched_onward : GoesOnward name text entries (old.entry name) (old.entry other) (new.entry name) o
+  pub unfetched_onward : GoesOnward name text entries (old.entry name) (old.entry other) (new.entry name) (new.entry other) o
   unfetched_onward =
-      onward.rests name text entries (old.entry name) (old.entry other) (new.entry name) o (failed_whole name text entries (old.entry name) (old.entry other) (new.entry name) (new.entry other) o failure) out.first_stays.images
+      onward.all_rests name text entries (old.entry name) (old.entry other) (new.entry name) (new.entry other) o (failed_whole name text entries (old.entry name) (old.entry other) (new.entry name) (new.entry other) o failure)
+      out.first_stays.images out.second_stays.images
 
   pub unfetched_shelf : LeavesShelf name other o (new.is_back name) (new.is_back other) old.entry new.entry old.faults new.faults
   unfetched_shelf = unfetched_leaves told name other failure_of IsNoFailure (λ no. no) (λ no. no) apart old new e o is out
@@ -150,13 +151,13 @@ module _ (name text : List ℕ) (entries : List Entry) (first second out_first o
     spool_tells = ap is_some second_back.now ∙ (did.spool_tells ∙ ap is_some second_out.now);
   }
 
-  onward_around : (o : SpoolOutcome) → GoesOnward name text entries out_first out_second mid_first o → GoesOnward name text entries first second new_first o
+  onward_around : (o : SpoolOutcome) → GoesOnward name text entries out_first out_second mid_first mid_second o → GoesOnward name text entries first second new_first new_second o
   onward_around o goes =
-      onward.before name text entries first second out_first out_second new_first first_out.now second_out.now first_out.images o
-      (onward.after name text entries out_first out_second mid_first new_first first_back o goes)
+      onward.before name text entries first second out_first out_second new_first new_second first_out.now second_out.now first_out.images second_out.images o
+      (onward.after name text entries out_first out_second mid_first mid_second new_first new_second first_back second_back o goes)
 
-  pub closed_onward : (o result : SpoolOutcome) (before after : ℕ) → IsTold failure_of o before after result → GoesOnward name text entries out_first out_second mid_first o → GoesOnward name text entries first second new_first result
-  closed_onward o result before after (inl is) goes = subst (GoesOnward name text entries first second new_first) (sym is) (onward_around o goes)
+  pub closed_onward : (o result : SpoolOutcome) (before after : ℕ) → IsTold failure_of o before after result → GoesOnward name text entries out_first out_second mid_first mid_second o → GoesOnward name text entries first second new_first new_second result
+  closed_onward o result before after (inl is) goes = subst (GoesOnward name text entries first second new_first new_second) (sym is) (onward_around o goes)
   closed_onward o result before after (inr failed) goes = failed_onward name text entries first second new_first new_second o result (is_failure result before after failed) (onward_around o goes)
 
 -- the whole call
@@ -170,7 +171,7 @@ module _ {D : Type 0} (told : D → View) (text : List ℕ) (entries : List Entr
   all_stays = closed_stays name text entries (old.entry name) (old.entry other) (told taken.first) (told taken.second) (told put.first) (told put.second) (new.entry name) (new.entry other)
       out.first out.second back.first back.second o result mid.faults new.faults (closed told name other failure_of put mid new r o result is back) did.in_step
 
-  pub all_onward : GoesOnward name text entries (old.entry name) (old.entry other) (new.entry name) result
+  pub all_onward : GoesOnward name text entries (old.entry name) (old.entry other) (new.entry name) (new.entry other) result
   all_onward = closed_onward name text entries (old.entry name) (old.entry other) (told taken.first) (told taken.second) (told put.first) (told put.second) (new.entry name) (new.entry other)
       out.first out.second back.first back.second o result mid.faults new.faults (closed told name other failure_of put mid new r o result is back) did.onward
 

@@ -21,14 +21,14 @@ use Rattle.spool_store.specs.Spools.{Spooled, IsSpool, outbox_of}
 use Rattle.csm_spool.specs.Beginning as beginning
 use Rattle.csm_spool.specs.Courses.{EntriesLead}
 use Rattle.csm_spool.specs.Drives.{IsDrive, IsFinished, IsOut, party_disk, spool_disk}
-use Rattle.csm_spool.specs.Going.{GoesOn, GoesAnyhow, IsLeftGoing}
+use Rattle.csm_spool.specs.Going.{GoesOn, HasGoneOn, HoldsKept, GoesAnyhow, IsLeftGoing}
 use Rattle.csm_spool.specs.InStep.{InStep, PairsInStep}
 use Rattle.csm_spool.specs.declared.outcome.Driven.{Driven}
 use Rattle.csm_spool.specs.declared.outcome.Driven.TheVariants as drive
 use Rattle.disk_pair.specs.declared.disks.Disks.{Disks}
 use Rattle.x_disk.proofs.Alike.{untouched_self}
 use Rattle.x_spool.specs.Dues.{FindsMember, IsDueBatch, IsDueOut, ReadsBatch}
-use Rattle.x_spool.specs.Onward.{WentOn, AnswersWhole, IsLeftOnward, GoesOnward}
+use Rattle.x_spool.specs.Onward.{HeldThese, WentOn, AnswersWhole, IsUnplanned, IsLeftOnward, GoesOnward}
 use Rattle.x_spool.specs.Outcomes.{AreUntouched, BothStay, IsDoneOrFailed, IsNoFailure, IsSafeBatch, LeavesBatch, progress_of}
 use Rattle.x_spool.specs.Steps.{HasActed, HandsOut, IsEnd, driven_disks, outcome_of, outcome_of_spool, two_disks}
 use Rattle.x_spool.specs.declared.outcome.SpoolOutcome.{SpoolOutcome}
@@ -137,13 +137,19 @@ module _ {D : Type 0} (told : D → View) (sound : (d : D) → IsSound (told d))
         let pair = start image book.0 ((sound node.disk).now_among image now) ((sound old).now_among book.0 book.1) in
         free_done u.cause (begun.never_refused book.0 book.1 (reads_step book.0 image x pair))
 
-    undone : (c : SpoolCause) (x : Member) → AnswersWhole text entries (told old) (told node.disk) x (outcome_of_spool c)
+    undone : (c : SpoolCause) (x : Member) → AnswersWhole text entries (told old) (told node.disk) (told u.disk) x (outcome_of_spool c)
     undone (spool.Journal cause.Blank) x = tt
     undone (spool.Journal cause.NotEmpty) x = tt
     undone (spool.Journal (cause.Damaged place)) x = tt
     undone (spool.Journal cause.Fault) x = tt
     undone (spool.Journal cause.NoMemory) x = tt
     undone spool.OtherBatch x = tt
+
+    -- no entry is planned: an image is left as it could be before, or of a spool that was being made
+    unplanned : IsUnplanned text entries (told old) (told u.disk)
+    unplanned tells book at =
+        let run = begun.any_moment tells in
+        elim (run.each book ((sound u.disk).counts_now (told old).moment book run.later at)) [ inl made ↦ inr made | inr was ↦ inl was ]
 
     pub unbegun : (first : D) (o : SpoolOutcome) → first ≡ node.disk → o ≡ outcome_of_spool u.cause → Acted (two_disks first u.disk) o
     unbegun first o first_is outcome_is =
@@ -157,7 +163,7 @@ module _ {D : Type 0} (told : D → View) (sound : (d : D) → IsSound (told d))
             party_tells = refl;
             spool_tells = begun.tells;
           };
-          onward = stays_there node.party.own text entries (told node.disk) (told old) (told node.disk) (outcome_of_spool u.cause) (undone u.cause) (λ c at. at);
+          onward = stays_there node.party.own text entries (told node.disk) (told old) (told node.disk) (told u.disk) (outcome_of_spool u.cause) (undone u.cause) (λ c at. at) unplanned;
           first_faults = omega arith;
           second_faults = begun.faults;
           fault = λ is. inr (begun.fault (fault_cause u.cause is));
@@ -210,24 +216,31 @@ module _ {D : Type 0} (told : D → View) (sound : (d : D) → IsSound (told d))
     progress_is : s.progress ≡ progress_of text entries s.progress.plans
     progress_is = ap (λ (t : List ℕ). progress_of t s.progress.entries s.progress.plans) begun.batch.0 ∙ ap (λ (es : List Entry). progress_of text es s.progress.plans) begun.batch.1
 
+    held_these : HeldThese text entries (told old) s.progress.plans
+    held_these book now = subst (λ (p : Progress). ReadsPlans book p) progress_is (begun.reads book now)
+
     -- the party goes on from the plans that the spool's image holds
     went_on : (plans more : List EntryPlan) (y : Member) → plans ≡ s.progress.plans ++ more → GoesOn (member_of node) s.progress more y → WentOn text entries (told old) (member_of node) plans y
     went_on plans more y split goes = record {
       stood = s.progress.plans;
-      read = λ book now. subst (λ (p : Progress). ReadsPlans book p) progress_is (begun.reads book now);
+      held = held_these;
       more = more;
       split = split;
       goes = subst (λ (p : Progress). GoesOn (member_of node) p more y) progress_is goes;
     }
 
-    left_onward : (c : List ℕ) → IsLeftGoing (member_of node) s.progress c → IsLeftOnward text entries (told old) (member_of node) c
-    left_onward c is = record {
+    left_onward : (after : View) (c : List ℕ) → IsLeftGoing (member_of node) s.progress (told s.disk) after c → IsLeftOnward text entries (told old) after (member_of node) c
+    left_onward after c is = record {
+      stood = s.progress.plans;
+      held = held_these;
+      more = is.more;
       member = is.member;
-      way = elim is.way [ inl same ↦ inl same | inr on ↦ inr (s.progress.plans ++ on.0, went_on (s.progress.plans ++ on.0) on.0 is.member refl on.1) ];
+      way = subst (λ (p : Progress). HasGoneOn (member_of node) p is.more is.member) progress_is is.way;
       stands = is.stands;
+      kept = λ tells book at. subst (λ (p : Progress). HoldsKept p is.more book) progress_is (is.kept (tells_on tells) book at);
     }
 
-    module _ (d : Driven D D) (run : IsDrive told told node s d) (goes : GoesAnyhow told node s d) where
+    module _ (d : Driven D D) (run : IsDrive told told node s d) (goes : GoesAnyhow told told node s d) where
       pairs : (x : Member) → Tells (told node.disk) → Tells (told old) → Start x → PairsInStep (told (party_disk d)) (told (spool_disk d)) text x entries
       pairs x party_tells spool_tells start =
           subst (λ (t : List ℕ). PairsInStep (told (party_disk d)) (told (spool_disk d)) t x entries) begun.batch.0
@@ -251,17 +264,17 @@ module _ {D : Type 0} (told : D → View) (sound : (d : D) → IsSound (told d))
       }
 
       -- whoever commanded the party before, it goes on from the member for which its image stands
-      onward : (o : SpoolOutcome) → AnswersWhole text entries (told old) (told (party_disk d)) (member_of node) o → GoesOnward node.party.own text entries (told node.disk) (told old) (told (party_disk d)) o
+      onward : (o : SpoolOutcome) → AnswersWhole text entries (told old) (told (party_disk d)) (told (spool_disk d)) (member_of node) o → GoesOnward node.party.own text entries (told node.disk) (told old) (told (party_disk d)) (told (spool_disk d)) o
       onward o answers = record {
-        answers = λ image x now finds. subst (λ (m : Member). AnswersWhole text entries (told old) (told (party_disk d)) m o) (sym (itself image x now finds)) answers;
+        answers = λ image x now finds. subst (λ (m : Member). AnswersWhole text entries (told old) (told (party_disk d)) (told (spool_disk d)) m o) (sym (itself image x now finds)) answers;
         left = λ image x now finds c at.
-            inr (subst (λ (m : Member). IsLeftOnward text entries (told old) m c) (sym (itself image x now finds)) (left_onward c (goes.left (tells_of (told node.disk) image now) c at)));
+            inr (subst (λ (m : Member). IsLeftOnward text entries (told old) (told (spool_disk d)) m c) (sym (itself image x now finds)) (left_onward (told (spool_disk d)) c (goes.left (tells_of (told node.disk) image now) c at)));
       }
         where
           itself : (image : List ℕ) (x : Member) → (told node.disk).now ≡ Some image → FindsMember node.party.own image x → x ≡ member_of node
           itself image x now finds = same_member told node store image now one_party one_format x finds.stands
 
-      acted : (o : SpoolOutcome) → Due o → Left (party_disk d) (spool_disk d) o → AnswersWhole text entries (told old) (told (party_disk d)) (member_of node) o → Completes o
+      acted : (o : SpoolOutcome) → Due o → Left (party_disk d) (spool_disk d) o → AnswersWhole text entries (told old) (told (party_disk d)) (told (spool_disk d)) (member_of node) o → Completes o
           → (o ≡ outcome.Fault → Rose (told node.disk).faults (told (party_disk d)).faults ⊎ Rose (told s.disk).faults (told (spool_disk d)).faults) → Acted (driven_disks d) o
       acted o due left answers completes fault = record {
         made = record { due = due; left = left };
@@ -285,7 +298,7 @@ module _ {D : Type 0} (told : D → View) (sound : (d : D) → IsSound (told d))
       broken disk.Fault rose = acted outcome.Fault (λ image book now told_book answered. absurd answered) tt tt (λ x y image tells start now finds. tt) (λ bad. rose refl)
       broken disk.NoMemory rose = wanting
 
-    module _ (after : Stored D) (new : Spooled D) (run : IsDrive told told node s (drive.Done after new)) (goes : GoesAnyhow told node s (drive.Done after new)) (stands : IsStore (told after.disk) after.gate after.end after.format after.party)
+    module _ (after : Stored D) (new : Spooled D) (run : IsDrive told told node s (drive.Done after new)) (goes : GoesAnyhow told told node s (drive.Done after new)) (stands : IsStore (told after.disk) after.gate after.end after.format after.party)
         (kept : IsSpool (told new.disk) new.gate new.end new.progress) where
       abbrev plans : List EntryPlan
       plans = new.progress.plans
@@ -333,10 +346,11 @@ module _ {D : Type 0} (told : D → View) (sound : (d : D) → IsSound (told d))
         never_out = λ e out. run.answer.1 (out_of image book now told_book e out);
       }
 
-      whole_done : AnswersWhole text entries (told old) (told after.disk) (member_of node) (outcome.Done (outbox_of plans))
+      whole_done : AnswersWhole text entries (told old) (told after.disk) (told new.disk) (member_of node) (outcome.Done (outbox_of plans))
       whole_done = record {
         plans = plans;
         whole = run.answer.0.plans ∙ ap length entries_are;
+        spool = record { durable = kept.standing.durable; holds = holds_all };
         outbox = refl;
         member = member_of after;
         keeps = record { durable = stands.durable; stands = λ image now. now_image told after stands image now };
@@ -348,7 +362,7 @@ module _ {D : Type 0} (told : D → View) (sound : (d : D) → IsSound (told d))
           (acted (drive.Done after new) run goes (outcome.Done (outbox_of plans)) due_done left_done whole_done (λ x y image tells start now finds. tt) (λ bad. absurd (cc bad)))
       done o (inr is) = subst (λ (out : SpoolOutcome). Acted (two_disks after.disk new.disk) out) (sym is) (wanting (drive.Done after new) run goes)
 
-    module _ (after : Stored D) (new : Spooled D) (entry : ℕ) (run : IsDrive told told node s (drive.OutOfStep after new entry)) (goes : GoesAnyhow told node s (drive.OutOfStep after new entry)) where
+    module _ (after : Stored D) (new : Spooled D) (entry : ℕ) (run : IsDrive told told node s (drive.OutOfStep after new entry)) (goes : GoesAnyhow told told node s (drive.OutOfStep after new entry)) where
       node_same : after ≡ node
       node_same = run.answer.0
 
@@ -382,7 +396,7 @@ module _ {D : Type 0} (told : D → View) (sound : (d : D) → IsSound (told d))
       out = acted (drive.OutOfStep after new entry) run goes (outcome.OutOfStep entry) due_out left_out tt
           (λ x y image tells start now finds. absurd (run.ends x (tells_of (told node.disk) image now) (tells_on tells) (begun_start x tells start))) (λ bad. absurd (cc bad))
 
-    pub driven : (d : Driven D D) (o : SpoolOutcome) → IsDrive told told node s d → GoesAnyhow told node s d → IsEnd told d o → Acted (driven_disks d) o
+    pub driven : (d : Driven D D) (o : SpoolOutcome) → IsDrive told told node s d → GoesAnyhow told told node s d → IsEnd told d o → Acted (driven_disks d) o
     driven (drive.Done after new) o run goes end = done after new run goes end.0 end.1 o end.2
     driven (drive.OutOfStep after new entry) o run goes end = subst (λ (t : SpoolOutcome). Acted (two_disks after.disk new.disk) t) (sym end) (out after new entry run goes)
     driven (drive.NodeBroken b new) o run goes end = subst (λ (t : SpoolOutcome). Acted (two_disks b.disk new.disk) t) (sym end) (broken (drive.NodeBroken b new) run goes b.cause (λ is. inl (run.answer.0.fault is)))
@@ -390,5 +404,5 @@ module _ {D : Type 0} (told : D → View) (sound : (d : D) → IsSound (told d))
     driven (drive.NoMemory after new) o run goes end = subst (λ (t : SpoolOutcome). Acted (two_disks after.disk new.disk) t) (sym end) (wanting (drive.NoMemory after new) run goes)
 
     -- what is handed on of it
-    pub ended : (d : Driven D D) (result : Disks D × SpoolOutcome) → IsDrive told told node s d → GoesAnyhow told node s d → result.0 ≡ driven_disks d → IsEnd told d result.1 → Acted result.0 result.1
+    pub ended : (d : Driven D D) (result : Disks D × SpoolOutcome) → IsDrive told told node s d → GoesAnyhow told told node s d → result.0 ≡ driven_disks d → IsEnd told d result.1 → Acted result.0 result.1
     ended d result run goes disks_are end = subst (λ (two : Disks D). Acted two result.1) (sym disks_are) (driven d result.1 run goes end)

@@ -79,7 +79,7 @@ module _ {D : Type 0} (told : D → View) (name text : List ℕ) (entries : List
       party_tells = did.in_step.party_tells ∙ ap is_some opened.untouched.now;
       spool_tells = did.in_step.spool_tells;
     };
-    onward = onward.before name text entries (told old.first) (told old.second) (told node.disk) (told old.second) (told new.first) opened.untouched.now refl opened.untouched.images o did.onward;
+    onward = onward.before name text entries (told old.first) (told old.second) (told node.disk) (told old.second) (told new.first) (told new.second) opened.untouched.now refl opened.untouched.images (λ c at. at) o did.onward;
     first_faults = omega (arith, opened.faults, did.first_faults);
     second_faults = did.second_faults;
     fault = λ is. elim (did.fault is) [ inl rose ↦ inl (rose_from (told old.first).faults (told node.disk).faults (told new.first).faults opened.faults rose) | inr rose ↦ inr rose ];
@@ -129,7 +129,7 @@ module _ {D : Type 0} (told : D → View) (sound : (d : D) → IsSound (told d))
   failed (why.Unmade cause.Fault) p is own = tt
   failed (why.Unmade cause.NoMemory) p is own = tt
 
-  undone : (w : WhyNotOpened) (x : Member) → AnswersWhole text entries (told old.second) (told new) x (outcome_of_why name w)
+  undone : (w : WhyNotOpened) (x : Member) → AnswersWhole text entries (told old.second) (told new) (told old.second) x (outcome_of_why name w)
   undone (why.OtherParty found) x = tt
   undone (why.Unmade cause.Blank) x = tt
   undone (why.Unmade cause.NotEmpty) x = tt
@@ -147,7 +147,7 @@ module _ {D : Type 0} (told : D → View) (sound : (d : D) → IsSound (told d))
       party_tells = ap is_some none.untouched.now;
       spool_tells = refl;
     };
-    onward = onward.rests name text entries (told old.first) (told old.second) (told new) (outcome_of_why name w) (undone w) none.untouched.images;
+    onward = onward.all_rests name text entries (told old.first) (told old.second) (told new) (told old.second) (outcome_of_why name w) (undone w) none.untouched.images (λ c at. at);
     first_faults = none.faults;
     second_faults = omega arith;
     fault = λ is. inl (shows w none.reason is);

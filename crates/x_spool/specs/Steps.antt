@@ -50,7 +50,7 @@ outcome_of_spool spool.OtherBatch = outcome.OtherBatch
 pub record HasActed {D : Type 0} (name text : List ℕ) (entries : List Entry) (told : D → View) (old new : Disks D) (o : SpoolOutcome) : Type 0 where
   pub made : MakesBatch name text entries (told old.first) (told old.second) (told new.first) (told new.second) o
   pub in_step : StaysInStep name text entries (told old.first) (told old.second) (told new.first) (told new.second) o
-  pub onward : GoesOnward name text entries (told old.first) (told old.second) (told new.first) o
+  pub onward : GoesOnward name text entries (told old.first) (told old.second) (told new.first) (told new.second) o
   pub first_faults : (told old.first).faults ≤ (told new.first).faults
   pub second_faults : (told old.second).faults ≤ (told new.second).faults
   pub fault : o ≡ outcome.Fault → Rose (told old.first).faults (told new.first).faults ⊎ Rose (told old.second).faults (told new.second).faults

@@ -19,8 +19,9 @@ use x_disk::Shelf;
 /// disk before the party carries it out, and a batch that was broken off goes on where it stopped. Both disks are put back,
 /// whatever comes, and the outbox is handed out where the batch is done. Once only is a promise as long as nobody else commands
 /// the party until then, and the spool's disk is kept. Whoever commanded the party before: a batch that is done went on from where
-/// the party stood, and whatever comes, each image that a crash may leave of the party's disk is one that it could leave before, or
-/// stands for the party as it was, or as it went on so.
+/// the party stood, and whatever comes, each image that a crash may leave of the party's disk is one that it could leave before, and
+/// no entry was planned; or it stands for the party as it was, or as it went on so, and each one of the spool's disk holds the plans
+/// by which it did: all, or all but the last one, which changes nothing, or one more, which changes something.
 pub fn spool<H: Shelf>(
     alloc: Global,
     shelf: &mut H,
@@ -31,7 +32,7 @@ pub fn spool<H: Shelf>(
     requires { party.now ≢ spool.now }
     ensures made { MakesBatch party.now batch.now.0 batch.now.1 (H.entry shelf.old party.now) (H.entry shelf.old spool.now) (H.entry shelf.new party.now) (H.entry shelf.new spool.now) result }
     ensures in_step { StaysInStep party.now batch.now.0 batch.now.1 (H.entry shelf.old party.now) (H.entry shelf.old spool.now) (H.entry shelf.new party.now) (H.entry shelf.new spool.now) result }
-    ensures onward { GoesOnward party.now batch.now.0 batch.now.1 (H.entry shelf.old party.now) (H.entry shelf.old spool.now) (H.entry shelf.new party.now) result }
+    ensures onward { GoesOnward party.now batch.now.0 batch.now.1 (H.entry shelf.old party.now) (H.entry shelf.old spool.now) (H.entry shelf.new party.now) (H.entry shelf.new spool.now) result }
     ensures due { GivesDue party.now batch.now.0 (H.entry shelf.old party.now) (H.entry shelf.old spool.now) result }
     ensures shelf { LeavesShelf party.now spool.now result (H.is_back shelf.new party.now) (H.is_back shelf.new spool.now) (H.entry shelf.old) (H.entry shelf.new) (H.faults shelf.old) (H.faults shelf.new) }
 {
