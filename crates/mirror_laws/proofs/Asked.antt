@@ -1,5 +1,5 @@
 -- What a call over two disks goes on from, and how a way from there makes a run.
-use Rattle.std.proofs.Common.{◌≡◌, ◌≢◌, ℕ, ◌+◌, Bool, true, false, cond, Option, Some, List, [], ◌∷◌, ◌++◌, length, refl, sym, ◌∙◌, ap, subst, bytes_eq}
+use Rattle.std.proofs.Common.{◌≡◌, ◌≢◌, ℕ, suc, ◌+◌, Bool, true, false, cond, Option, Some, List, [], ◌∷◌, ◌++◌, length, refl, sym, ◌∙◌, ap, subst, bytes_eq}
 use Rattle.std.specs.Prelude.{is_some}
 use Rattle.x_disk.specs.Disk.{View, Tells}
 use Rattle.x_disk.specs.Shelf.{IsAlike}
@@ -44,6 +44,10 @@ module _ (start : World) (mirror : List ℕ → Option (List ℕ)) (disks : ℕ 
   abbrev pub old : List ℕ → View
   old = disks (0 + length ds)
 
+  -- after the next deed
+  abbrev later : List ℕ → View
+  later = disks (suc (0 + length ds))
+
   -- with these images of the others
   module _ (images : List ℕ → Pair)
       (others : (q : List ℕ) (x : Member) → member_at q start.members ≡ Some x → q ≢ name → MayBe (old q).may_leave (second_view (mirror q) old).may_leave (images q).first (images q).second) where
@@ -72,7 +76,7 @@ module _ (start : World) (mirror : List ℕ → Option (List ℕ)) (disks : ℕ 
       somebody = record { member = member.0; own = sym (own_found name (pair_run 1 start r.events) member.0 member.1); stands = stood }
 
     -- a way makes a run
-    pub by_way : (c : PairDeed) → SomeWay name (old name).may_leave (second_view (mirror name) old).may_leave somebody (IsOfPairDeed mirror c old) (images name).first (images name).second → Led start mirror disks (ds ++ c ∷ []) images
+    pub by_way : (c : PairDeed) → SomeWay name (old name).may_leave (second_view (mirror name) old).may_leave somebody (IsOfPairDeed mirror c old later) (images name).first (images name).second → Led start mirror disks (ds ++ c ∷ []) images
     by_way c found =
         let way = found.way in
         led_on start mirror disks ds found.texts (asked way.from_first way.from_second) images name (r way.from_first way.from_second way.possible) c
@@ -83,6 +87,9 @@ module _ (start : World) (mirror : List ℕ → Option (List ℕ)) (apart : Have
     (name : List ℕ) (x0 : Member) (at0 : member_at name start.members ≡ Some x0) (mid : List ℕ → View) (stay : ButOwn start mirror name (disks (0 + length ds)) mid) where
   abbrev was : List ℕ → View
   was = disks (0 + length ds)
+
+  abbrev next : List ℕ → View
+  next = disks (suc (0 + length ds))
 
   second_stays : (q : List ℕ) (x : Member) → member_at q start.members ≡ Some x → q ≢ name → IsAlike (second_view (mirror q) was) (second_view (mirror q) mid)
   second_stays q x h ne = second_alike (mirror q) was mid (λ s e. stay.seconds q s x h ne e)
@@ -103,11 +110,11 @@ module _ (start : World) (mirror : List ℕ → Option (List ℕ)) (apart : Have
   -- by the events and texts of this deed
   abbrev pub SomeWays : PairDeed → (List ℕ → Type 0) → (List ℕ → Type 0) → Type 0
   SomeWays c P Q = (images : List ℕ → Pair) (others : OthersMay images) → MayBe P Q (images name).first (images name).second
-      → SomeWay name (was name).may_leave (second_view (mirror name) was).may_leave (somebody start mirror disks ds g name x0 at0 images others) (IsOfPairDeed mirror c was) (images name).first (images name).second
+      → SomeWay name (was name).may_leave (second_view (mirror name) was).may_leave (somebody start mirror disks ds g name x0 at0 images others) (IsOfPairDeed mirror c was next) (images name).first (images name).second
 
-  of_ways : (c : PairDeed) (more : List (List ℕ)) (are : List PairEvent → Type 0) → ((es : List PairEvent) → are es → IsOfPairDeed mirror c was es more) → (P Q : List ℕ → Type 0) → Ways more are P Q → SomeWays c P Q
+  of_ways : (c : PairDeed) (more : List (List ℕ)) (are : List PairEvent → Type 0) → ((es : List PairEvent) → are es → IsOfPairDeed mirror c was next es more) → (P Q : List ℕ → Type 0) → Ways more are P Q → SomeWays c P Q
   of_ways c more are by P Q ways images others may =
-      some_way name (was name).may_leave (second_view (mirror name) was).may_leave (somebody start mirror disks ds g name x0 at0 images others) more are (IsOfPairDeed mirror c was) by (images name).first (images name).second
+      some_way name (was name).may_leave (second_view (mirror name) was).may_leave (somebody start mirror disks ds g name x0 at0 images others) more are (IsOfPairDeed mirror c was next) by (images name).first (images name).second
       (ways images others may)
 
   -- a deed ends
@@ -137,12 +144,12 @@ module _ (start : World) (mirror : List ℕ → Option (List ℕ)) (apart : Have
       reach images possible = by_way start mirror disks ds g name x0 at0 images (others images possible) c (ways images (others images possible) (possible name x0 at0))
 
   -- by these texts
-  pub ended_goes : (c : PairDeed) (more : List (List ℕ)) (are : List PairEvent → Type 0) → ((es : List PairEvent) → are es → IsOfPairDeed mirror c was es more) → Tells (mid name) → Tells (second_view (mirror name) mid)
+  pub ended_goes : (c : PairDeed) (more : List (List ℕ)) (are : List PairEvent → Type 0) → ((es : List PairEvent) → are es → IsOfPairDeed mirror c was next es more) → Tells (mid name) → Tells (second_view (mirror name) mid)
       → Ways more are (mid name).may_leave (second_view (mirror name) mid).may_leave → GoesOn start mirror disks (ds ++ c ∷ []) mid
   ended_goes c more are by first_told second_told ways = done_goes c first_told second_told (of_ways c more are by (mid name).may_leave (second_view (mirror name) mid).may_leave ways)
 
   -- the power fails in it
-  pub cut_goes : (c : PairDeed) (are : List PairEvent → Type 0) → ((es : List PairEvent) → are es → IsOfPairDeed mirror c was es []) → (new : List ℕ → View) → PairOffWithin mirror name was mid new
+  pub cut_goes : (c : PairDeed) (are : List PairEvent → Type 0) → ((es : List PairEvent) → are es → IsOfPairDeed mirror c was next es []) → (new : List ℕ → View) → PairOffWithin mirror name was mid new
       → Ways [] are ((mid name).left_since (was name).moment) ((second_view (mirror name) mid).left_since (second_view (mirror name) was).moment) → GoesOn start mirror disks (ds ++ c ∷ []) new
   cut_goes c are by new off ways = record { first_tells = first_tells; second_tells = second_tells; reach = reach }
     where

@@ -1,5 +1,5 @@
 -- A batch that is taken at a party with one disk goes on from what a session may have come to, by the events of its entries.
-use Rattle.std.proofs.Common.{◌≡◌, inl, inr, ℕ, ◌+◌, true, false, Option, Some, None, List, [], ◌∷◌, ◌++◌, length, refl, sym, ◌∙◌, ap, subst}
+use Rattle.std.proofs.Common.{◌≡◌, inl, inr, ℕ, suc, ◌+◌, true, false, Option, Some, None, List, [], ◌∷◌, ◌++◌, length, refl, sym, ◌∙◌, ap, subst}
 use Rattle.x_disk.specs.Disk.{View, Tells, IsSound}
 use Rattle.key_journal.specs.Journal.{is_blank}
 use Rattle.party_state.specs.declared.command.Input.{Input}
@@ -19,7 +19,7 @@ use Rattle.mirror_laws.specs.Sessions.{PairDeed, Batched, HaveOwnDisks, IsBatchT
 use Rattle.mirror_laws.specs.Batches.{IsPartBatch, IsBatchOf}
 use Rattle.mirror_laws.proofs.Images.{MayBe, Known, told}
 use Rattle.mirror_laws.proofs.Ways.{Somebody, SomeWay, untouched_way}
-use Rattle.mirror_laws.proofs.Batching.{Carried, part_of_none, none_carried, whole_carried, part_carried}
+use Rattle.mirror_laws.proofs.Batching.{Carried, whole_carried, part_carried}
 use Rattle.mirror_laws.proofs.OwnDisks.{ButOwn, but_nobodys, no_disk, second_view}
 use Rattle.mirror_laws.proofs.Led.{GoesOn}
 use Rattle.mirror_laws.proofs.Asked.{somebody, done_goes}
@@ -27,7 +27,7 @@ use Rattle.mirror_laws.proofs.OneDisk.{alone_stands, stands_alone}
 
 module _ (known : Known) (inputs : (x : Member) (i : Input) (moment : ℕ) → IsEventOf x (taking (plan_at x i moment)) (input_event x i moment)) where
   -- over the disk
-  module _ (name text : List ℕ) (entries : List Entry) (o : SpoolOutcome) (old spool new spool_after : View) (made : MakesBatch name text entries old spool new spool_after o) (onward : GoesOnward name text entries old spool new o)
+  module _ (name text : List ℕ) (entries : List Entry) (o : SpoolOutcome) (old spool new spool_after : View) (made : MakesBatch name text entries old spool new spool_after o) (onward : GoesOnward name text entries old spool new spool_after o)
       (sound : IsSound old) (some : (f : Option (List ℕ)) (d : List ℕ) → MayBe old.may_leave no_disk.may_leave f d → Somebody name f d) (b : List ℕ) (now : old.now ≡ Some b) (tells : Tells new) where
     abbrev possible : MayBe old.may_leave no_disk.may_leave (Some b) []
     possible = (sound.now_among b now, refl)
@@ -63,68 +63,71 @@ module _ (known : Known) (inputs : (x : Member) (i : Input) (moment : ℕ) → I
     still_way : (are : List PairEvent → List (List ℕ) → Type 0) → are [] [] → (c : List ℕ) → old.may_leave c → WayBy are (Some c) []
     still_way are none c left = record { texts = []; way = untouched_way name old.may_leave no_disk.may_leave some (λ es. are es []) none (Some c) [] (left, refl) }
 
-    whole_way : (out : List ℕ) → HasGoneWhole text entries spool new x out → (c : List ℕ) → new.may_leave c → WayBy (IsBatchOf name entries (spooling.Done out)) (Some c) []
+    whole_way : (out : List ℕ) → HasGoneWhole text entries spool new spool_after x out → (c : List ℕ) → new.may_leave c → WayBy (IsBatchOf name text entries spool spool_after (spooling.Done out)) (Some c) []
     whole_way out gone c left =
         let reads = told new tells in
         let is : c ≡ reads.0 = gone.keeps.durable.only reads.0 c reads.1 left in
-        carried_way (IsBatchOf name entries (spooling.Done out)) gone.member (whole_carried inputs name x here.own entries gone.member text out spool gone.plans gone.whole gone.outbox gone.went) c
+        carried_way (IsBatchOf name text entries spool spool_after (spooling.Done out)) gone.member (whole_carried inputs name x here.own entries gone.member text out spool gone.plans gone.whole gone.outbox gone.went) c
         (subst (IsImageOf gone.member) (sym is) (gone.keeps.stands reads.0 reads.1))
 
-    left_way : (c : List ℕ) → IsLeftOnward text entries spool x c → WayBy (IsPartBatch name entries) (Some c) []
-    left_way c left = elim left.way [
-      | inl same ↦ carried_way (IsPartBatch name entries) left.member (none_carried name x entries left.member same) c left.stands
-      | inr on ↦ carried_way (IsPartBatch name entries) left.member (part_carried inputs name x here.own entries left.member text spool on.0 on.1) c left.stands
-    ]
+    abbrev IsPart : List PairEvent → List (List ℕ) → Type 0
+    IsPart = IsPartBatch name text entries spool spool_after
 
-    part_way : (c : List ℕ) → new.may_leave c → WayBy (IsPartBatch name entries) (Some c) []
+    left_way : (c : List ℕ) → IsLeftOnward text entries spool spool_after x c → WayBy IsPart (Some c) []
+    left_way c left = carried_way IsPart left.member (part_carried inputs name x here.own entries left.member text spool spool_after left.stood left.held left.more left.kept left.way) c left.stands
+
+    part_way : (c : List ℕ) → new.may_leave c → WayBy IsPart (Some c) []
     part_way c left = elim (onward.left b x now finds c left) [
-      | inl before ↦ still_way (IsPartBatch name entries) (part_of_none name entries) c before
+      | inl before ↦ still_way IsPart (inl (refl, refl, before.1)) c before.0
       | inr on ↦ left_way c on
     ]
 
-    ended_way : (c : List ℕ) → new.may_leave c → WayBy (IsBatchOf name entries o) (Some c) []
+    ended_way : (c : List ℕ) → new.may_leave c → WayBy (IsBatchOf name text entries spool spool_after o) (Some c) []
     ended_way c left = go o made.left (onward.answers b x now finds)
       where
-        go : (p : SpoolOutcome) → LeavesBatch text entries old spool new spool_after p → AnswersWhole text entries spool new x p → WayBy (IsBatchOf name entries p) (Some c) []
+        go : (p : SpoolOutcome) → LeavesBatch text entries old spool new spool_after p → AnswersWhole text entries spool new spool_after x p → WayBy (IsBatchOf name text entries spool spool_after p) (Some c) []
         go (spooling.Done out) leaves gone = whole_way out gone c left
-        go spooling.OtherBatch leaves gone = still_way (IsBatchOf name entries spooling.OtherBatch) (refl, refl) c (leaves.party.images c left)
-        go (spooling.OutOfStep entry) leaves gone = still_way (IsBatchOf name entries (spooling.OutOfStep entry)) (refl, refl) c (leaves.party.images c left)
-        go (spooling.OtherParty asked found) leaves gone = still_way (IsBatchOf name entries (spooling.OtherParty asked found)) (refl, refl) c (leaves.party.images c left)
-        go spooling.Blank leaves gone = still_way (IsBatchOf name entries spooling.Blank) (refl, refl) c (leaves.party.images c left)
-        go (spooling.Damaged place) leaves gone = still_way (IsBatchOf name entries (spooling.Damaged place)) (refl, refl) c (leaves.party.images c left)
+        go spooling.OtherBatch leaves gone = still_way (IsBatchOf name text entries spool spool_after spooling.OtherBatch) (refl, refl) c (leaves.party.images c left)
+        go (spooling.OutOfStep entry) leaves gone = still_way (IsBatchOf name text entries spool spool_after (spooling.OutOfStep entry)) (refl, refl) c (leaves.party.images c left)
+        go (spooling.OtherParty asked found) leaves gone = still_way (IsBatchOf name text entries spool spool_after (spooling.OtherParty asked found)) (refl, refl) c (leaves.party.images c left)
+        go spooling.Blank leaves gone = still_way (IsBatchOf name text entries spool spool_after spooling.Blank) (refl, refl) c (leaves.party.images c left)
+        go (spooling.Damaged place) leaves gone = still_way (IsBatchOf name text entries spool spool_after (spooling.Damaged place)) (refl, refl) c (leaves.party.images c left)
         go spooling.Fault leaves gone = part_way c left
         go spooling.NoMemory leaves gone = part_way c left
 
     -- beside no second image
-    pub batch_way : (f : Option (List ℕ)) (d : List ℕ) → MayBe new.may_leave no_disk.may_leave f d → WayBy (IsBatchOf name entries o) f d
-    batch_way (Some c) d may = subst (λ (e : List ℕ). WayBy (IsBatchOf name entries o) (Some c) e) (sym may.1) (ended_way c may.0)
+    pub batch_way : (f : Option (List ℕ)) (d : List ℕ) → MayBe new.may_leave no_disk.may_leave f d → WayBy (IsBatchOf name text entries spool spool_after o) f d
+    batch_way (Some c) d may = subst (λ (e : List ℕ). WayBy (IsBatchOf name text entries spool spool_after o) (Some c) e) (sym may.1) (ended_way c may.0)
     batch_way None d may = (let blank : is_blank d ≡ true = ap is_blank may.0 in let lie : true ≡ false = sym blank ∙ may.1 in absurd (cc lie))
 
   -- in a session
   module _ (start : World) (mirror : List ℕ → Option (List ℕ)) (apart : HaveOwnDisks mirror start) (disks : ℕ → List ℕ → View) (ds : List PairDeed) (g : GoesOn start mirror disks ds (disks (0 + length ds)))
-      (sound : (q : List ℕ) → IsSound (disks (0 + length ds) q)) (name spool text : List ℕ) (entries : List Entry) (o : SpoolOutcome) (mid : List ℕ → View)
-      (is : IsBatchTaken start mirror name spool text entries o (disks (0 + length ds)) mid) where
+      (sound : (q : List ℕ) → IsSound (disks (0 + length ds) q)) (name spool text : List ℕ) (entries : List Entry) (o : SpoolOutcome)
+      (is : IsBatchTaken start mirror name spool text entries o (disks (0 + length ds)) (disks (suc (0 + length ds)))) where
     abbrev was : List ℕ → View
     was = disks (0 + length ds)
+
+    abbrev next : List ℕ → View
+    next = disks (suc (0 + length ds))
 
     now_is : (b : List ℕ) × ((was name).now ≡ Some b)
     now_is = told (was name) (g.first_tells name is.member is.at)
 
-    first_tells : Tells (mid name)
+    first_tells : Tells (next name)
     first_tells = is.tells ∙ g.first_tells name is.member is.at
 
-    stay : ButOwn start mirror name was mid
-    stay = but_nobodys start mirror apart name is.member is.at was mid spool is.nobodys is.others
+    stay : ButOwn start mirror name was next
+    stay = but_nobodys start mirror apart name is.member is.at was next spool is.nobodys is.others
 
     abbrev Ways : Option (List ℕ) → Type 0
     Ways m = (some : (f : Option (List ℕ)) (d : List ℕ) → MayBe (was name).may_leave (second_view m was).may_leave f d → Somebody name f d) → (f : Option (List ℕ)) (d : List ℕ)
-        → MayBe (mid name).may_leave (second_view m mid).may_leave f d → SomeWay name (was name).may_leave (second_view m was).may_leave some (IsBatchOf name entries o) f d
+        → MayBe (next name).may_leave (second_view m next).may_leave f d → SomeWay name (was name).may_leave (second_view m was).may_leave some (IsBatchOf name text entries (was spool) (next spool) o) f d
 
     ways : Ways None
-    ways some = batch_way name text entries o (was name) (was spool) (mid name) (mid spool) is.made is.onward (sound name) some now_is.0 now_is.1 first_tells
+    ways some = batch_way name text entries o (was name) (was spool) (next name) (next spool) is.made is.onward (sound name) some now_is.0 now_is.1 first_tells
 
-    pub batched : GoesOn start mirror disks (ds ++ Batched name spool text entries o ∷ []) mid
+    pub batched : GoesOn start mirror disks (ds ++ Batched name spool text entries o ∷ []) next
     batched =
-        done_goes start mirror apart disks ds g name is.member is.at mid stay (Batched name spool text entries o) first_tells
-        (subst (λ (m : Option (List ℕ)). Tells (second_view m mid)) (sym is.alone) refl)
+        done_goes start mirror apart disks ds g name is.member is.at next stay (Batched name spool text entries o) first_tells
+        (subst (λ (m : Option (List ℕ)). Tells (second_view m next)) (sym is.alone) refl)
         (λ images others. (subst Ways (sym is.alone) ways) (somebody start mirror disks ds g name is.member is.at images others) (images name).first (images name).second)

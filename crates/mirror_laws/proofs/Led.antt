@@ -40,7 +40,7 @@ pub record GoesOn (start : World) (mirror : List ℕ → Option (List ℕ)) (dis
 
 -- one deed more
 of_more : (mirror : List ℕ → Option (List ℕ)) (disks : ℕ → List ℕ → View) (ds : List PairDeed) (k : ℕ) (d : PairDeed) (es more : List PairEvent) (texts added : List (List ℕ)) → AreOfPairDeeds mirror ds k disks es texts
-    → IsOfPairDeed mirror d (disks (k + length ds)) more added → AreOfPairDeeds mirror (ds ++ d ∷ []) k disks (es ++ more) (texts ++ added)
+    → IsOfPairDeed mirror d (disks (k + length ds)) (disks (suc (k + length ds))) more added → AreOfPairDeeds mirror (ds ++ d ∷ []) k disks (es ++ more) (texts ++ added)
 of_more mirror disks [] k d es more texts added is last =
     let place : k + 0 ≡ k = omega arith in
     record {
@@ -50,7 +50,7 @@ of_more mirror disks [] k d es more texts added is last =
       first_texts = added;
       other_texts = [];
       all = ap (λ (ts : List (List ℕ)). ts ++ added) is.1 ∙ sym (append-nil added);
-      is = subst (λ (n : ℕ). IsOfPairDeed mirror d (disks n) more added) place last;
+      is = subst (λ (n : ℕ). IsOfPairDeed mirror d (disks n) (disks (suc n)) more added) place last;
       follow = (refl, refl);
     }
 of_more mirror disks (c ∷ ds) k d es more texts added is last =
@@ -63,11 +63,11 @@ of_more mirror disks (c ∷ ds) k d es more texts added is last =
       other_texts = is.other_texts ++ added;
       all = ap (λ (ts : List (List ℕ)). ts ++ added) is.all ∙ append_assoc is.first_texts is.other_texts added;
       is = is.is;
-      follow = of_more mirror disks ds (suc k) d is.others more is.other_texts added is.follow (subst (λ (n : ℕ). IsOfPairDeed mirror d (disks n) more added) place last);
+      follow = of_more mirror disks ds (suc k) d is.others more is.other_texts added is.follow (subst (λ (n : ℕ). IsOfPairDeed mirror d (disks n) (disks (suc n)) more added) place last);
     }
 
 -- with no event
-pub led_still : (start : World) (mirror : List ℕ → Option (List ℕ)) (disks : ℕ → List ℕ → View) (ds : List PairDeed) (images : List ℕ → Pair) (d : PairDeed) → IsOfPairDeed mirror d (disks (0 + length ds)) [] []
+pub led_still : (start : World) (mirror : List ℕ → Option (List ℕ)) (disks : ℕ → List ℕ → View) (ds : List PairDeed) (images : List ℕ → Pair) (d : PairDeed) → IsOfPairDeed mirror d (disks (0 + length ds)) (disks (suc (0 + length ds))) [] []
     → Led start mirror disks ds images → Led start mirror disks (ds ++ d ∷ []) images
 led_still start mirror disks ds images d none r = record {
   events = r.events;
@@ -114,7 +114,7 @@ module _ (start : World) (texts more : List (List ℕ)) (images new : List ℕ �
 -- with these events and texts, at the member of this name
 pub led_on : (start : World) (mirror : List ℕ → Option (List ℕ)) (disks : ℕ → List ℕ → View) (ds : List PairDeed) (more : List (List ℕ)) (images new : List ℕ → Pair) (name : List ℕ) (r : Led start mirror disks ds images) (d : PairDeed) (x : Member)
     → member_at name (pair_run 1 start r.events).members ≡ Some x → ((q : List ℕ) → q ≢ name → new q ≡ images q)
-    → Going name x more (λ es. IsOfPairDeed mirror d (disks (0 + length ds)) es more) (new name).first (new name).second → Led start mirror disks (ds ++ d ∷ []) new
+    → Going name x more (λ es. IsOfPairDeed mirror d (disks (0 + length ds)) (disks (suc (0 + length ds))) es more) (new name).first (new name).second → Led start mirror disks (ds ++ d ∷ []) new
 led_on start mirror disks ds more images new name r d x at others going = record {
   events = r.events ++ going.events;
   texts = r.texts ++ more;

@@ -1,5 +1,5 @@
 -- A loss of a disk and a failure of power go on from what a session may have come to.
-use Rattle.std.proofs.Common.{◌≡◌, ◌≢◌, inl, ℕ, ◌+◌, Bool, true, false, Option, Some, None, List, [], ◌∷◌, ◌++◌, length, refl, sym, ◌∙◌, ap, subst, bytes_eq}
+use Rattle.std.proofs.Common.{◌≡◌, ◌≢◌, inl, ℕ, suc, ◌+◌, Bool, true, false, Option, Some, None, List, [], ◌∷◌, ◌++◌, length, refl, sym, ◌∙◌, ap, subst, bytes_eq}
 use Rattle.std.specs.Prelude.{is_some}
 use Rattle.x_disk.specs.Disk.{View, Tells, IsSound, IsDurable}
 use Rattle.x_disk.specs.Shelf.{IsAlike}
@@ -103,7 +103,7 @@ module _ (known : Known) (start : World) (mirror : List ℕ → Option (List ℕ
         reach images possible =
             let others : OthersMay images = first_others images possible in
             by_way start mirror disks ds g name l.member l.at images others (Lost name FirstDisk)
-            (some_way name (was name).may_leave (second_view (mirror name) was).may_leave (somebody start mirror disks ds g name l.member l.at images others) [] (λ es. es ≡ Loses name FirstDisk ∷ []) (IsOfPairDeed mirror (Lost name FirstDisk) was)
+            (some_way name (was name).may_leave (second_view (mirror name) was).may_leave (somebody start mirror disks ds g name l.member l.at images others) [] (λ es. es ≡ Loses name FirstDisk ∷ []) (IsOfPairDeed mirror (Lost name FirstDisk) was (disks (suc (0 + length ds))))
             (λ es is. (is, refl)) (images name).first (images name).second (first_lost images others (images name).first (images name).second (possible name l.member l.at)))
 
   -- ---- the second disk is lost
@@ -161,5 +161,5 @@ module _ (known : Known) (start : World) (mirror : List ℕ → Option (List ℕ
         reach images possible =
             let others : OthersMay images = second_others images possible in
             by_way start mirror disks ds g name l.member l.at images others (Lost name SecondDisk)
-            (some_way name (was name).may_leave (second_view (mirror name) was).may_leave (somebody start mirror disks ds g name l.member l.at images others) [] (λ es. es ≡ Loses name SecondDisk ∷ []) (IsOfPairDeed mirror (Lost name SecondDisk) was)
+            (some_way name (was name).may_leave (second_view (mirror name) was).may_leave (somebody start mirror disks ds g name l.member l.at images others) [] (λ es. es ≡ Loses name SecondDisk ∷ []) (IsOfPairDeed mirror (Lost name SecondDisk) was (disks (suc (0 + length ds))))
             (λ es is. (is, refl)) (images name).first (images name).second (second_lost images others (images name).first (images name).second (possible name l.member l.at)))

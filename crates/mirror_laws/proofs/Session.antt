@@ -179,28 +179,31 @@ module _ (known : Known) (inputs : (x : Member) (i : Input) (moment : ℕ) → I
             (but_own start mirror apart name is.member is.at was mid is.others) new off
         go (Some second) has made = cut_pair name second has action moment o mid new is off made
 
-    deed_goes : (d : PairDeed) (mid new : List ℕ → View) → ((q : List ℕ) → IsSound (new q)) → IsDeedDone start mirror d (disks (0 + length ds)) mid new → GoesOn start mirror disks (ds ++ d ∷ []) new
-    deed_goes (Called name action moment o) mid new later is = by_call name action moment o new later is
-    deed_goes (CutOff name action moment o) mid new later is = by_cut name action moment o mid new is.0 is.1
-    deed_goes (Shown name) mid new later is = shows known start mirror apart disks ds g (sound (0 + length ds)) name new is later
-    deed_goes (ShowCutOff name) mid new later is = show_cut_off known start mirror apart disks ds g (sound (0 + length ds)) name mid is.0 new is.1
-    deed_goes (Tended name FirstDisk t moment o) mid new later is = tends_first known refused start mirror apart disks ds g (sound (0 + length ds)) name t moment o new is later
-    deed_goes (Tended name SecondDisk t moment o) mid new later is = tends_second known refused start mirror apart disks ds g (sound (0 + length ds)) name t moment o new is later
-    deed_goes (TendCutOff name FirstDisk t moment o) mid new later is = first_cut_off known refused start mirror apart disks ds g (sound (0 + length ds)) name t moment o mid is.0 new is.1
-    deed_goes (TendCutOff name SecondDisk t moment o) mid new later is = second_cut_off known refused start mirror apart disks ds g (sound (0 + length ds)) name t moment o mid is.0 new is.1
-    deed_goes (Batched name spool text entries o) mid new later is = batched known inputs start mirror apart disks ds g (sound (0 + length ds)) name spool text entries o new is
-    deed_goes Aside mid new later is = aside start mirror disks ds g new is
-    deed_goes PowerFails mid new later is = all_off start mirror disks ds g new is
-    deed_goes (Lost name FirstDisk) mid new later is = loses_first known start mirror apart disks ds g (sound (0 + length ds)) name new is
-    deed_goes (Lost name SecondDisk) mid new later is = loses_second known start mirror apart disks ds g (sound (0 + length ds)) name new is
+    abbrev next : List ℕ → View
+    next = disks (suc (0 + length ds))
+
+    deed_goes : (d : PairDeed) (mid : List ℕ → View) → ((q : List ℕ) → IsSound (next q)) → IsDeedDone start mirror d was mid next → GoesOn start mirror disks (ds ++ d ∷ []) next
+    deed_goes (Called name action moment o) mid later is = by_call name action moment o next later is
+    deed_goes (CutOff name action moment o) mid later is = by_cut name action moment o mid next is.0 is.1
+    deed_goes (Shown name) mid later is = shows known start mirror apart disks ds g (sound (0 + length ds)) name next is later
+    deed_goes (ShowCutOff name) mid later is = show_cut_off known start mirror apart disks ds g (sound (0 + length ds)) name mid is.0 next is.1
+    deed_goes (Tended name FirstDisk t moment o) mid later is = tends_first known refused start mirror apart disks ds g (sound (0 + length ds)) name t moment o next is later
+    deed_goes (Tended name SecondDisk t moment o) mid later is = tends_second known refused start mirror apart disks ds g (sound (0 + length ds)) name t moment o next is later
+    deed_goes (TendCutOff name FirstDisk t moment o) mid later is = first_cut_off known refused start mirror apart disks ds g (sound (0 + length ds)) name t moment o mid is.0 next is.1
+    deed_goes (TendCutOff name SecondDisk t moment o) mid later is = second_cut_off known refused start mirror apart disks ds g (sound (0 + length ds)) name t moment o mid is.0 next is.1
+    deed_goes (Batched name spool text entries o) mid later is = batched known inputs start mirror apart disks ds g (sound (0 + length ds)) name spool text entries o is
+    deed_goes Aside mid later is = aside start mirror disks ds g next is
+    deed_goes PowerFails mid later is = all_off start mirror disks ds g next is
+    deed_goes (Lost name FirstDisk) mid later is = loses_first known start mirror apart disks ds g (sound (0 + length ds)) name next is
+    deed_goes (Lost name SecondDisk) mid later is = loses_second known start mirror apart disks ds g (sound (0 + length ds)) name next is
 
   deeds_go : (ds done : List PairDeed) → GoesOn start mirror disks done (disks (0 + length done)) → AreDeedsDone start mirror ds (0 + length done) disks ends
       → GoesOn start mirror disks (done ++ ds) (disks (0 + length (done ++ ds)))
   deeds_go [] done g is = subst (λ (cs : List PairDeed). GoesOn start mirror disks cs (disks (0 + length cs))) (sym (append-nil done)) g
   deeds_go (d ∷ ds) done g is =
       let place : suc (0 + length done) ≡ 0 + length (done ++ d ∷ []) = omega (arith, length-append done (d ∷ [])) in
-      let next : GoesOn start mirror disks (done ++ d ∷ []) (disks (suc (0 + length done))) = deed_goes done g d (ends (0 + length done)) (disks (suc (0 + length done))) (sound (suc (0 + length done))) is.0 in
-      let rest = deeds_go ds (done ++ d ∷ []) (subst (λ (n : ℕ). GoesOn start mirror disks (done ++ d ∷ []) (disks n)) place next)
+      let further : GoesOn start mirror disks (done ++ d ∷ []) (disks (suc (0 + length done))) = deed_goes done g d (ends (0 + length done)) (sound (suc (0 + length done))) is.0 in
+      let rest = deeds_go ds (done ++ d ∷ []) (subst (λ (n : ℕ). GoesOn start mirror disks (done ++ d ∷ []) (disks n)) place further)
       (subst (λ (n : ℕ). AreDeedsDone start mirror ds n disks ends) place is.1) in
       subst (λ (cs : List PairDeed). GoesOn start mirror disks cs (disks (0 + length cs))) (append_assoc done (d ∷ []) ds) rest
 
