@@ -6,10 +6,10 @@ use Rattle.member.specs.Member.{Member}
 use Rattle.world_laws.specs.World.{World, member_at}
 use Rattle.mirror_laws.specs.Sessions.{PairDeed, Aside, IsAside}
 use Rattle.mirror_laws.proofs.Images.{Pair, fewer}
-use Rattle.mirror_laws.proofs.Led.{IsPossible, GoesOn, led_still}
+use Rattle.mirror_laws.proofs.Led.{IsPossible, HasComeTo, led_still}
 use Rattle.mirror_laws.proofs.OwnDisks.{second_view, second_untouched}
 
-module _ (start : World) (mirror : List ℕ → Option (List ℕ)) (disks : ℕ → List ℕ → View) (ds : List PairDeed) (g : GoesOn start mirror disks ds (disks (0 + length ds)))
+module _ (start : World) (mirror : List ℕ → Option (List ℕ)) (disks : ℕ → List ℕ → View) (ds : List PairDeed) (g : HasComeTo start mirror disks ds (disks (0 + length ds)))
     (new : List ℕ → View) (is : IsAside start mirror (disks (0 + length ds)) new) where
   abbrev was : List ℕ → View
   was = disks (0 + length ds)
@@ -21,7 +21,7 @@ module _ (start : World) (mirror : List ℕ → Option (List ℕ)) (disks : ℕ 
   possible_before images possible q x h =
       fewer (new q).may_leave (second_view (mirror q) new).may_leave (was q).may_leave (second_view (mirror q) was).may_leave (is.firsts q x h).images (second q x h).images (images q).first (images q).second (possible q x h)
 
-  pub aside : GoesOn start mirror disks (ds ++ Aside ∷ []) new
+  pub aside : HasComeTo start mirror disks (ds ++ Aside ∷ []) new
   aside = record {
     first_tells = λ q x h. ap is_some (is.firsts q x h).now ∙ g.first_tells q x h;
     second_tells = λ q x h. ap is_some (second q x h).now ∙ g.second_tells q x h;

@@ -14,7 +14,7 @@ use Rattle.mirror_laws.specs.Deeds.{IsOfPairDeed}
 use Rattle.mirror_laws.proofs.Moves.{own_found}
 use Rattle.mirror_laws.proofs.Images.{Pair, StandsFor, MayBe, fewer}
 use Rattle.mirror_laws.proofs.Ways.{Somebody, Way, SomeWay, some_way}
-use Rattle.mirror_laws.proofs.Led.{IsPossible, Led, GoesOn, led_on}
+use Rattle.mirror_laws.proofs.Led.{IsPossible, Led, HasComeTo, led_on}
 use Rattle.mirror_laws.proofs.OwnDisks.{ButOwn, second_view, second_alike, second_off, second_off_since, not_second, not_first, not_mirror}
 
 -- another pair under one name
@@ -39,7 +39,7 @@ pair_there name p images q ne = go (bytes_eq q name) refl
 pub off_left : (could : List ℕ → Type 0) (v : View) → IsOff could v → (c : List ℕ) → v.may_leave c → could c
 off_left could v off c left = subst could (sym (off.durable.only off.image c off.reads left)) off.left
 
-module _ (start : World) (mirror : List ℕ → Option (List ℕ)) (disks : ℕ → List ℕ → View) (ds : List PairDeed) (g : GoesOn start mirror disks ds (disks (0 + length ds)))
+module _ (start : World) (mirror : List ℕ → Option (List ℕ)) (disks : ℕ → List ℕ → View) (ds : List PairDeed) (g : HasComeTo start mirror disks ds (disks (0 + length ds)))
     (name : List ℕ) (x0 : Member) (at0 : member_at name start.members ≡ Some x0) where
   abbrev pub old : List ℕ → View
   old = disks (0 + length ds)
@@ -83,7 +83,7 @@ module _ (start : World) (mirror : List ℕ → Option (List ℕ)) (disks : ℕ 
         (member way.from_first way.from_second way.possible).0 (member way.from_first way.from_second way.possible).1
         (pair_there name (record { first = way.from_first; second = way.from_second }) images) way.going
 
-module _ (start : World) (mirror : List ℕ → Option (List ℕ)) (apart : HaveOwnDisks mirror start) (disks : ℕ → List ℕ → View) (ds : List PairDeed) (g : GoesOn start mirror disks ds (disks (0 + length ds)))
+module _ (start : World) (mirror : List ℕ → Option (List ℕ)) (apart : HaveOwnDisks mirror start) (disks : ℕ → List ℕ → View) (ds : List PairDeed) (g : HasComeTo start mirror disks ds (disks (0 + length ds)))
     (name : List ℕ) (x0 : Member) (at0 : member_at name start.members ≡ Some x0) (mid : List ℕ → View) (stay : ButOwn start mirror name (disks (0 + length ds)) mid) where
   abbrev was : List ℕ → View
   was = disks (0 + length ds)
@@ -118,7 +118,7 @@ module _ (start : World) (mirror : List ℕ → Option (List ℕ)) (apart : Have
       (ways images others may)
 
   -- a deed ends
-  pub done_goes : (c : PairDeed) → Tells (mid name) → Tells (second_view (mirror name) mid) → SomeWays c (mid name).may_leave (second_view (mirror name) mid).may_leave → GoesOn start mirror disks (ds ++ c ∷ []) mid
+  pub done_goes : (c : PairDeed) → Tells (mid name) → Tells (second_view (mirror name) mid) → SomeWays c (mid name).may_leave (second_view (mirror name) mid).may_leave → HasComeTo start mirror disks (ds ++ c ∷ []) mid
   done_goes c first_told second_told ways = record { first_tells = first_tells; second_tells = second_tells; reach = reach }
     where
       first_tells : (q : List ℕ) (x : Member) → member_at q start.members ≡ Some x → Tells (mid q)
@@ -145,12 +145,12 @@ module _ (start : World) (mirror : List ℕ → Option (List ℕ)) (apart : Have
 
   -- by these texts
   pub ended_goes : (c : PairDeed) (more : List (List ℕ)) (are : List PairEvent → Type 0) → ((es : List PairEvent) → are es → IsOfPairDeed mirror c was next es more) → Tells (mid name) → Tells (second_view (mirror name) mid)
-      → Ways more are (mid name).may_leave (second_view (mirror name) mid).may_leave → GoesOn start mirror disks (ds ++ c ∷ []) mid
+      → Ways more are (mid name).may_leave (second_view (mirror name) mid).may_leave → HasComeTo start mirror disks (ds ++ c ∷ []) mid
   ended_goes c more are by first_told second_told ways = done_goes c first_told second_told (of_ways c more are by (mid name).may_leave (second_view (mirror name) mid).may_leave ways)
 
   -- the power fails in it
   pub cut_goes : (c : PairDeed) (are : List PairEvent → Type 0) → ((es : List PairEvent) → are es → IsOfPairDeed mirror c was next es []) → (new : List ℕ → View) → PairOffWithin mirror name was mid new
-      → Ways [] are ((mid name).left_since (was name).moment) ((second_view (mirror name) mid).left_since (second_view (mirror name) was).moment) → GoesOn start mirror disks (ds ++ c ∷ []) new
+      → Ways [] are ((mid name).left_since (was name).moment) ((second_view (mirror name) mid).left_since (second_view (mirror name) was).moment) → HasComeTo start mirror disks (ds ++ c ∷ []) new
   cut_goes c are by new off ways = record { first_tells = first_tells; second_tells = second_tells; reach = reach }
     where
       own_second_off : IsOff ((second_view (mirror name) mid).left_since (second_view (mirror name) was).moment) (second_view (mirror name) new)

@@ -21,7 +21,7 @@ use Rattle.mirror_laws.proofs.Images.{MayBe, Known, told}
 use Rattle.mirror_laws.proofs.Ways.{Somebody, SomeWay, untouched_way}
 use Rattle.mirror_laws.proofs.Batching.{Carried, whole_carried, part_carried}
 use Rattle.mirror_laws.proofs.OwnDisks.{ButOwn, but_nobodys, no_disk, second_view}
-use Rattle.mirror_laws.proofs.Led.{GoesOn}
+use Rattle.mirror_laws.proofs.Led.{HasComeTo}
 use Rattle.mirror_laws.proofs.Asked.{somebody, done_goes}
 use Rattle.mirror_laws.proofs.OneDisk.{alone_stands, stands_alone}
 
@@ -67,7 +67,7 @@ module _ (known : Known) (inputs : (x : Member) (i : Input) (moment : ℕ) → I
     whole_way out gone c left =
         let reads = told new tells in
         let is : c ≡ reads.0 = gone.keeps.durable.only reads.0 c reads.1 left in
-        carried_way (IsBatchOf name text entries spool spool_after (spooling.Done out)) gone.member (whole_carried inputs name x here.own entries gone.member text out spool gone.plans gone.whole gone.outbox gone.went) c
+        carried_way (IsBatchOf name text entries spool spool_after (spooling.Done out)) gone.member (whole_carried inputs name x here.own entries gone.member text out spool spool_after gone.plans gone.whole gone.spool gone.outbox gone.went) c
         (subst (IsImageOf gone.member) (sym is) (gone.keeps.stands reads.0 reads.1))
 
     abbrev IsPart : List PairEvent → List (List ℕ) → Type 0
@@ -87,11 +87,11 @@ module _ (known : Known) (inputs : (x : Member) (i : Input) (moment : ℕ) → I
       where
         go : (p : SpoolOutcome) → LeavesBatch text entries old spool new spool_after p → AnswersWhole text entries spool new spool_after x p → WayBy (IsBatchOf name text entries spool spool_after p) (Some c) []
         go (spooling.Done out) leaves gone = whole_way out gone c left
-        go spooling.OtherBatch leaves gone = still_way (IsBatchOf name text entries spool spool_after spooling.OtherBatch) (refl, refl) c (leaves.party.images c left)
-        go (spooling.OutOfStep entry) leaves gone = still_way (IsBatchOf name text entries spool spool_after (spooling.OutOfStep entry)) (refl, refl) c (leaves.party.images c left)
-        go (spooling.OtherParty asked found) leaves gone = still_way (IsBatchOf name text entries spool spool_after (spooling.OtherParty asked found)) (refl, refl) c (leaves.party.images c left)
-        go spooling.Blank leaves gone = still_way (IsBatchOf name text entries spool spool_after spooling.Blank) (refl, refl) c (leaves.party.images c left)
-        go (spooling.Damaged place) leaves gone = still_way (IsBatchOf name text entries spool spool_after (spooling.Damaged place)) (refl, refl) c (leaves.party.images c left)
+        go spooling.OtherBatch leaves gone = still_way (IsBatchOf name text entries spool spool_after spooling.OtherBatch) (refl, refl, leaves.spool) c (leaves.party.images c left)
+        go (spooling.OutOfStep entry) leaves gone = still_way (IsBatchOf name text entries spool spool_after (spooling.OutOfStep entry)) (refl, refl, leaves.spool) c (leaves.party.images c left)
+        go (spooling.OtherParty asked found) leaves gone = still_way (IsBatchOf name text entries spool spool_after (spooling.OtherParty asked found)) (refl, refl, leaves.spool) c (leaves.party.images c left)
+        go spooling.Blank leaves gone = still_way (IsBatchOf name text entries spool spool_after spooling.Blank) (refl, refl, leaves.spool) c (leaves.party.images c left)
+        go (spooling.Damaged place) leaves gone = still_way (IsBatchOf name text entries spool spool_after (spooling.Damaged place)) (refl, refl, leaves.spool) c (leaves.party.images c left)
         go spooling.Fault leaves gone = part_way c left
         go spooling.NoMemory leaves gone = part_way c left
 
@@ -101,7 +101,7 @@ module _ (known : Known) (inputs : (x : Member) (i : Input) (moment : ℕ) → I
     batch_way None d may = (let blank : is_blank d ≡ true = ap is_blank may.0 in let lie : true ≡ false = sym blank ∙ may.1 in absurd (cc lie))
 
   -- in a session
-  module _ (start : World) (mirror : List ℕ → Option (List ℕ)) (apart : HaveOwnDisks mirror start) (disks : ℕ → List ℕ → View) (ds : List PairDeed) (g : GoesOn start mirror disks ds (disks (0 + length ds)))
+  module _ (start : World) (mirror : List ℕ → Option (List ℕ)) (apart : HaveOwnDisks mirror start) (disks : ℕ → List ℕ → View) (ds : List PairDeed) (g : HasComeTo start mirror disks ds (disks (0 + length ds)))
       (sound : (q : List ℕ) → IsSound (disks (0 + length ds) q)) (name spool text : List ℕ) (entries : List Entry) (o : SpoolOutcome)
       (is : IsBatchTaken start mirror name spool text entries o (disks (0 + length ds)) (disks (suc (0 + length ds)))) where
     abbrev was : List ℕ → View
@@ -126,7 +126,7 @@ module _ (known : Known) (inputs : (x : Member) (i : Input) (moment : ℕ) → I
     ways : Ways None
     ways some = batch_way name text entries o (was name) (was spool) (next name) (next spool) is.made is.onward (sound name) some now_is.0 now_is.1 first_tells
 
-    pub batched : GoesOn start mirror disks (ds ++ Batched name spool text entries o ∷ []) next
+    pub batched : HasComeTo start mirror disks (ds ++ Batched name spool text entries o ∷ []) next
     batched =
         done_goes start mirror apart disks ds g name is.member is.at next stay (Batched name spool text entries o) first_tells
         (subst (λ (m : Option (List ℕ)). Tells (second_view m next)) (sym is.alone) refl)

@@ -17,7 +17,7 @@ use Rattle.csm_spool.specs.Courses.{plan_for, IsRefusal, IsArrival, EntryLeads, 
 use Rattle.csm_spool.specs.Drives.{IsSettled}
 use Rattle.csm_spool.specs.Catching.{TakesUp, CatchesUp}
 use Rattle.csm_spool.specs.Going.{GoesOn, HasGoneOn, HoldsKept}
-use Rattle.x_spool.specs.Outcomes.{progress_of}
+use Rattle.x_spool.specs.Outcomes.{KeepsPlans, progress_of}
 use Rattle.x_spool.specs.Onward.{HeldThese, WentOn}
 use Rattle.world_laws.specs.World.{World, member_at}
 use Rattle.world_laws.specs.Events.{Hears, Whole, Event}
@@ -270,16 +270,17 @@ module _ (inputs : (x : Member) (i : Input) (moment : ℕ) → IsEventOf x (taki
         subst (λ (es : List Entry). IsStretch name entries stood plans es (map Happens in_order.events) in_order.texts) (none_behind stood plans in_order whole) (stretch stood plans fits in_order)
 
     -- each entry has its plan
-    module _ (text out : List ℕ) (spool : View) (plans : List EntryPlan) (whole : length plans ≡ length entries) (outbox : out ≡ outbox_of plans) (went : WentOn text entries spool x plans y) where
+    module _ (text out : List ℕ) (spool spool_after : View) (plans : List EntryPlan) (whole : length plans ≡ length entries) (kept : KeepsPlans spool_after (progress_of text entries plans)) (outbox : out ≡ outbox_of plans) (went : WentOn text entries spool x plans y) where
       abbrev WholeBy : Type 0
-      WholeBy = Carried name x (IsWholeBatch name text entries spool out) y
+      WholeBy = Carried name x (IsWholeBatch name text entries spool spool_after out) y
 
-      whole_is : (es : List PairEvent) (texts : List (List ℕ)) → IsOnward name entries went.stood went.more [] es texts → IsWholeBatch name text entries spool out es texts
+      whole_is : (es : List PairEvent) (texts : List (List ℕ)) → IsOnward name entries went.stood went.more [] es texts → IsWholeBatch name text entries spool spool_after out es texts
       whole_is es texts course = record {
         stood = went.stood;
         held = went.held;
         more = went.more;
         course = course;
+        kept = subst (λ (ps : List EntryPlan). KeepsPlans spool_after (progress_of text entries ps)) went.split kept;
         outbox = outbox ∙ ap (λ (ps : List EntryPlan). outbox_of ps) went.split;
       }
 
@@ -289,13 +290,13 @@ module _ (inputs : (x : Member) (i : Input) (moment : ℕ) → IsEventOf x (taki
       whole_by : LeadsOn x entries went.stood went.more y → WholeBy
       whole_by (inl course) =
           let e : EnteredFrom went.stood went.more = entered_from went.stood went.more course in
-          carried name x (drop (length went.stood) entries) went.more y e (IsWholeBatch name text entries spool out)
+          carried name x (drop (length went.stood) entries) went.more y e (IsWholeBatch name text entries spool spool_after out)
           (whole_is (map Happens e.events) e.texts (inl (whole_stretch went.stood went.more size e)))
       whole_by (inr l) =
           let e : EnteredFrom l.front (l.last ∷ went.more) = entered_from l.front (l.last ∷ went.more) l.course in
           let parts : length went.stood ≡ length l.front + length (l.last ∷ []) = ap (λ (ps : List EntryPlan). length ps) l.split ∙ length-append l.front (l.last ∷ []) in
           let all : length entries ≡ length l.front + length (l.last ∷ went.more) = omega (arith, size, parts) in
-          carried name x (drop (length l.front) entries) (l.last ∷ went.more) y e (IsWholeBatch name text entries spool out)
+          carried name x (drop (length l.front) entries) (l.last ∷ went.more) y e (IsWholeBatch name text entries spool spool_after out)
           (whole_is (map Happens e.events) e.texts
           (inr (record { front = l.front; last = l.last; split = l.split; changes = l.changes; stretch = whole_stretch l.front (l.last ∷ went.more) all e })))
 

@@ -32,7 +32,7 @@ use Rattle.mirror_laws.proofs.TurnWays.{unanswered_way, nothing}
 use Rattle.mirror_laws.proofs.LeftImages.{turned_is}
 use Rattle.mirror_laws.proofs.SafeWays.{Reads, reads_of, too_large, left_at_end, safe_way}
 use Rattle.mirror_laws.proofs.Answered.{answered_way, large_way}
-use Rattle.mirror_laws.proofs.Led.{GoesOn}
+use Rattle.mirror_laws.proofs.Led.{HasComeTo}
 use Rattle.mirror_laws.proofs.Asked.{OthersMay, somebody, ended_goes, cut_goes}
 use Rattle.mirror_laws.proofs.OwnDisks.{ButOwn, second_view, second_sound}
 
@@ -42,7 +42,7 @@ module _ (known : Known) (inputs : (x : Member) (i : Input) (moment : ℕ) → I
     (refusing : (p : Party) (i : Input) (moment : ℕ) → is_accept (decision p i moment).verdict ≡ false → (decision p i moment).change ≡ [])
     (one_pair : (i j : List ℕ) (p q : Party) → Recovers i j p → Recovers i j q → p ≡ q)
     (refused : (i j : List ℕ) (p : Party) (reason : PairCause) → Recovers i j p → IsPairRefusal i j reason → IsPairFailure p reason)
-    (start : World) (mirror : List ℕ → Option (List ℕ)) (apart : HaveOwnDisks mirror start) (disks : ℕ → List ℕ → View) (ds : List PairDeed) (g : GoesOn start mirror disks ds (disks (0 + length ds)))
+    (start : World) (mirror : List ℕ → Option (List ℕ)) (apart : HaveOwnDisks mirror start) (disks : ℕ → List ℕ → View) (ds : List PairDeed) (g : HasComeTo start mirror disks ds (disks (0 + length ds)))
     (sound : (q : List ℕ) → IsSound (disks (0 + length ds) q))
     (name second bytes : List ℕ) (has : mirror name ≡ Some second) (i : Input) (moment : ℕ) (o : Outcome) (is_action : IsAction (action_of bytes i)) (x0 : Member) (at0 : member_at name start.members ≡ Some x0) (mid : List ℕ → View)
     (turned : IsTurned name i moment o (disks (0 + length ds) name) (second_view (mirror name) (disks (0 + length ds))) (mid name) (second_view (mirror name) mid))
@@ -114,7 +114,7 @@ module _ (known : Known) (inputs : (x : Member) (i : Input) (moment : ℕ) → I
             large_way known inputs one_pair refused name bytes i moment is_action (was name) (second_view (mirror name) was) (mid name) (second_view (mirror name) mid) some now.was_first now.was_second now.first_may now.second_may
             first_told second_told large (still large) f d may o (turned.makes now.was_first now.was_second now.read)
 
-  pub called : ((q : List ℕ) → IsSound (mid q)) → GoesOn start mirror disks (ds ++ Called name (action_of bytes i) moment o ∷ []) mid
+  pub called : ((q : List ℕ) → IsSound (mid q)) → HasComeTo start mirror disks (ds ++ Called name (action_of bytes i) moment o ∷ []) mid
   called sound_mid =
       ended_goes start mirror apart disks ds g name x0 at0 mid thirds (Called name (action_of bytes i) moment o) (reply_of o) (IsCallOn (mirror name) o name (action_of bytes i) moment (was name)) (λ es is. (is, refl)) first_told second_told
       (λ images others may. way_more name (was name).may_leave (second_view (mirror name) was).may_leave (some images others) (reply_of o) (IsPairCallOf o name (action_of bytes i) moment (was name))
@@ -122,7 +122,7 @@ module _ (known : Known) (inputs : (x : Member) (i : Input) (moment : ℕ) → I
       (images name).first (images name).second (called_way images others sound_mid may))
 
   -- the power fails in it
-  pub cut_off : (new : List ℕ → View) → PairOffWithin mirror name was mid new → GoesOn start mirror disks (ds ++ CutOff name (action_of bytes i) moment o ∷ []) new
+  pub cut_off : (new : List ℕ → View) → PairOffWithin mirror name was mid new → HasComeTo start mirror disks (ds ++ CutOff name (action_of bytes i) moment o ∷ []) new
   cut_off new off =
       cut_goes start mirror apart disks ds g name x0 at0 mid thirds (CutOff name (action_of bytes i) moment o) (IsCutOn (mirror name) name (action_of bytes i) moment (was name)) (λ es is. (is, refl)) new off
       (λ images others may. way_more name (was name).may_leave (second_view (mirror name) was).may_leave (some images others) [] (IsUnanswered name (action_of bytes i) moment (was name))

@@ -33,7 +33,7 @@ pub record Led (start : World) (mirror : List ℕ → Option (List ℕ)) (disks 
   pub at : IsAt start texts images (pair_run 1 start events)
 
 -- `disks` is what is told before each deed, and `now` what is told after these
-pub record GoesOn (start : World) (mirror : List ℕ → Option (List ℕ)) (disks : ℕ → List ℕ → View) (ds : List PairDeed) (now : List ℕ → View) : Type 0 where
+pub record HasComeTo (start : World) (mirror : List ℕ → Option (List ℕ)) (disks : ℕ → List ℕ → View) (ds : List PairDeed) (now : List ℕ → View) : Type 0 where
   pub first_tells : (q : List ℕ) (x : Member) → member_at q start.members ≡ Some x → Tells (now q)
   pub second_tells : (q : List ℕ) (x : Member) → member_at q start.members ≡ Some x → Tells (second_view (mirror q) now)
   pub reach : (images : List ℕ → Pair) → IsPossible start mirror now images → Led start mirror disks ds images

@@ -15,13 +15,13 @@ use Rattle.mirror_laws.specs.Deeds.{IsOfPairDeed}
 use Rattle.mirror_laws.proofs.Moves.{after_lost, party_kept, lost_moves}
 use Rattle.mirror_laws.proofs.Images.{Pair, StandsFor, MayBe, Known, told, fewer, opened_first, first_stands, opened_lost}
 use Rattle.mirror_laws.proofs.Ways.{Somebody, Going, Way, some_way}
-use Rattle.mirror_laws.proofs.Led.{IsPossible, Led, GoesOn, led_still}
+use Rattle.mirror_laws.proofs.Led.{IsPossible, Led, HasComeTo, led_still}
 use Rattle.mirror_laws.proofs.Asked.{somebody, by_way, off_left}
 use Rattle.mirror_laws.proofs.OwnDisks.{second_view, second_sound, second_alike, second_off, not_second, not_first, not_mirror}
 
 -- the power fails while no party's disk is written
-pub all_off : (start : World) (mirror : List ℕ → Option (List ℕ)) (disks : ℕ → List ℕ → View) (ds : List PairDeed) → GoesOn start mirror disks ds (disks (0 + length ds)) → (new : List ℕ → View) → AllOwnOff start mirror (disks (0 + length ds)) new
-    → GoesOn start mirror disks (ds ++ PowerFails ∷ []) new
+pub all_off : (start : World) (mirror : List ℕ → Option (List ℕ)) (disks : ℕ → List ℕ → View) (ds : List PairDeed) → HasComeTo start mirror disks ds (disks (0 + length ds)) → (new : List ℕ → View) → AllOwnOff start mirror (disks (0 + length ds)) new
+    → HasComeTo start mirror disks (ds ++ PowerFails ∷ []) new
 all_off start mirror disks ds g new off = record {
   first_tells = λ q x h. ap is_some (off.firsts q x h).reads;
   second_tells = λ q x h. ap is_some (second_off (mirror q) (disks (0 + length ds)) new (λ s e. off.seconds q s x h e)).reads;
@@ -43,7 +43,7 @@ lost_by name which x f d stands = record {
 not_both : {A : Type 0} (c : List ℕ) → is_blank c ≡ true → is_blank c ≡ false → A
 not_both c blank not = (let lie : true ≡ false = sym blank ∙ not in absurd (cc lie))
 
-module _ (known : Known) (start : World) (mirror : List ℕ → Option (List ℕ)) (apart : HaveOwnDisks mirror start) (disks : ℕ → List ℕ → View) (ds : List PairDeed) (g : GoesOn start mirror disks ds (disks (0 + length ds)))
+module _ (known : Known) (start : World) (mirror : List ℕ → Option (List ℕ)) (apart : HaveOwnDisks mirror start) (disks : ℕ → List ℕ → View) (ds : List PairDeed) (g : HasComeTo start mirror disks ds (disks (0 + length ds)))
     (sound : (q : List ℕ) → IsSound (disks (0 + length ds) q)) (name : List ℕ) (new : List ℕ → View) where
   abbrev was : List ℕ → View
   was = disks (0 + length ds)
@@ -86,7 +86,7 @@ module _ (known : Known) (start : World) (mirror : List ℕ → Option (List ℕ
         let k : Somebody name None d = somebody start mirror disks ds g name l.member l.at images others None d possible in
         record { from_first = None; from_second = d; possible = possible; going = lost_by name FirstDisk k.member None d (subst (Stands d) (sym (party_kept (Some Two) k.member)) k.stands) }
 
-    pub loses_first : GoesOn start mirror disks (ds ++ Lost name FirstDisk ∷ []) new
+    pub loses_first : HasComeTo start mirror disks (ds ++ Lost name FirstDisk ∷ []) new
     loses_first = record { first_tells = first_tells; second_tells = second_tells; reach = reach }
       where
         first_tells : (q : List ℕ) (x : Member) → member_at q start.members ≡ Some x → Tells (new q)
@@ -144,7 +144,7 @@ module _ (known : Known) (start : World) (mirror : List ℕ → Option (List ℕ
         record { from_first = Some c; from_second = second_now.0; possible = possible; going = lost_by name SecondDisk k.member (Some c) d (opened_first known c d name k.member k.own stands (inl (blank d may.1))) }
     second_lost images others None d may = not_both d (blank d may.0) may.1
 
-    pub loses_second : GoesOn start mirror disks (ds ++ Lost name SecondDisk ∷ []) new
+    pub loses_second : HasComeTo start mirror disks (ds ++ Lost name SecondDisk ∷ []) new
     loses_second = record { first_tells = first_tells; second_tells = second_tells; reach = reach }
       where
         first_tells : (q : List ℕ) (x : Member) → member_at q start.members ≡ Some x → Tells (new q)

@@ -23,7 +23,7 @@ use Rattle.mirror_laws.specs.Deeds.{RecoversAs, OnlyHappen, IsCallOn, IsCutOn}
 use Rattle.mirror_laws.proofs.Images.{MayBe, Known, told, never_blank, opened_first, first_stands}
 use Rattle.mirror_laws.proofs.Ways.{Somebody, Going, Way, untouched_way}
 use Rattle.mirror_laws.proofs.OwnDisks.{ButOwn, no_disk, second_view}
-use Rattle.mirror_laws.proofs.Led.{GoesOn}
+use Rattle.mirror_laws.proofs.Led.{HasComeTo}
 use Rattle.mirror_laws.proofs.Asked.{somebody, ended_goes, cut_goes}
 
 -- beside no second image the first one stands
@@ -149,7 +149,7 @@ module _ (known : Known) (undamaged : (image : List ℕ) (party : Party) (place 
     one_cut = beside_way (OnlyHappen (IsCutOrNone name action moment)) [] (new.left_since old.moment) cut_way
 
   -- a call in a session
-  module _ (start : World) (mirror : List ℕ → Option (List ℕ)) (apart : HaveOwnDisks mirror start) (disks : ℕ → List ℕ → View) (ds : List PairDeed) (g : GoesOn start mirror disks ds (disks (0 + length ds)))
+  module _ (start : World) (mirror : List ℕ → Option (List ℕ)) (apart : HaveOwnDisks mirror start) (disks : ℕ → List ℕ → View) (ds : List PairDeed) (g : HasComeTo start mirror disks ds (disks (0 + length ds)))
       (sound : (q : List ℕ) → IsSound (disks (0 + length ds) q)) (name : List ℕ) (none : mirror name ≡ None) (action : Action) (moment : ℕ) (o : Outcome) (is_action : IsAction action) (x0 : Member)
       (at0 : member_at name start.members ≡ Some x0) (mid : List ℕ → View) (made : IsMade name action moment o (disks (0 + length ds) name) (mid name)) (others_stay : ButOwn start mirror name (disks (0 + length ds)) mid) where
     abbrev was : List ℕ → View
@@ -168,7 +168,7 @@ module _ (known : Known) (undamaged : (image : List ℕ) (party : Party) (place 
     ended_ways : Ways None
     ended_ways some sound_mid = one_ended name action moment o is_action (was name) (mid name) made (sound name) some now_is.0 now_is.1 sound_mid first_tells
 
-    pub one_called : IsSound (mid name) → GoesOn start mirror disks (ds ++ Called name action moment o ∷ []) mid
+    pub one_called : IsSound (mid name) → HasComeTo start mirror disks (ds ++ Called name action moment o ∷ []) mid
     one_called sound_mid =
         ended_goes start mirror apart disks ds g name x0 at0 mid others_stay (Called name action moment o) (reply_of o) (IsCallOn (mirror name) o name action moment (was name)) (λ es is. (is, refl)) first_tells
         (subst (λ (m : Option (List ℕ)). Tells (second_view m mid)) (sym none) refl)
@@ -181,7 +181,7 @@ module _ (known : Known) (undamaged : (image : List ℕ) (party : Party) (place 
     cut_ways : CutWays None
     cut_ways some = one_cut name action moment o is_action (was name) (mid name) made (sound name) some now_is.0 now_is.1
 
-    pub one_cut_off : (new : List ℕ → View) → PairOffWithin mirror name was mid new → GoesOn start mirror disks (ds ++ CutOff name action moment o ∷ []) new
+    pub one_cut_off : (new : List ℕ → View) → PairOffWithin mirror name was mid new → HasComeTo start mirror disks (ds ++ CutOff name action moment o ∷ []) new
     one_cut_off new off =
         cut_goes start mirror apart disks ds g name x0 at0 mid others_stay (CutOff name action moment o) (IsCutOn (mirror name) name action moment (was name)) (λ es is. (is, refl)) new off
         (λ images others. (subst CutWays (sym none) cut_ways) (somebody start mirror disks ds g name x0 at0 images others) (images name).first (images name).second)

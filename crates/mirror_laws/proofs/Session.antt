@@ -26,7 +26,7 @@ use Rattle.mirror_laws.specs.Sessions.{PairDeed, Called, CutOff, Shown, ShowCutO
 use Rattle.mirror_laws.specs.Deeds.{RecoversAs, AreImagesOf, AllMayLeave, EndsAsPairDone, EndsOnAllImages}
 use Rattle.mirror_laws.proofs.Moves.{own_found}
 use Rattle.mirror_laws.proofs.Images.{Pair, StandsFor, MayBe, Known, told, both_stand}
-use Rattle.mirror_laws.proofs.Led.{IsPossible, Led, GoesOn}
+use Rattle.mirror_laws.proofs.Led.{IsPossible, Led, HasComeTo}
 use Rattle.mirror_laws.proofs.OneDisk.{alone_stands, stands_alone, one_called, one_cut_off}
 use Rattle.mirror_laws.proofs.CallsGo.{called, cut_off}
 use Rattle.mirror_laws.proofs.ShowsGo.{shows, show_cut_off}
@@ -58,7 +58,7 @@ own_stand known (Some second) name disks x own on f d may =
     let second_now = told (disks second) on.second_tells in
     both_stand known (disks name) (disks second) x on.stand first_now.0 second_now.0 first_now.1 second_now.1 name own f d may
 
-start_goes : Known → (start : World) (mirror : List ℕ → Option (List ℕ)) (disks : ℕ → List ℕ → View) → AllStandOnOwn mirror (disks 0) start → GoesOn start mirror disks [] (disks 0)
+start_goes : Known → (start : World) (mirror : List ℕ → Option (List ℕ)) (disks : ℕ → List ℕ → View) → AllStandOnOwn mirror (disks 0) start → HasComeTo start mirror disks [] (disks 0)
 start_goes known start mirror disks on = record {
   first_tells = λ q x h. first_on (mirror q) q (disks 0) x (on q x h);
   second_tells = λ q x h. second_on (mirror q) q (disks 0) x (on q x h);
@@ -98,7 +98,7 @@ images_of : Known → (m : Option (List ℕ)) (name : List ℕ) (image : List �
 images_of known None name image x is = alone_stands known (image name) x is
 images_of known (Some second) name image x is = is
 
-end_goes : Known → Laws → (start : World) (mirror : List ℕ → Option (List ℕ)) (deeds : List PairDeed) (disks : ℕ → List ℕ → View) → IsStart start → GoesOn start mirror disks deeds (disks (length deeds))
+end_goes : Known → Laws → (start : World) (mirror : List ℕ → Option (List ℕ)) (deeds : List PairDeed) (disks : ℕ → List ℕ → View) → IsStart start → HasComeTo start mirror disks deeds (disks (length deeds))
     → EndsOnAllImages start mirror deeds disks
 end_goes known laws start mirror deeds disks s g = record { first_tells = g.first_tells; second_tells = second_tells; ends = ends }
   where
@@ -129,7 +129,7 @@ module _ (known : Known) (inputs : (x : Member) (i : Input) (moment : ℕ) → I
     (undamaged : (image : List ℕ) (party : Party) (place : ℕ) → Stands image party → IsFirstDamage image place → ⊥)
     (start : World) (mirror : List ℕ → Option (List ℕ)) (apart : HaveOwnDisks mirror start) (disks ends : ℕ → List ℕ → View) (sound : (k : ℕ) (q : List ℕ) → IsSound (disks k q)) where
   -- a deed goes on
-  module _ (ds : List PairDeed) (g : GoesOn start mirror disks ds (disks (0 + length ds))) where
+  module _ (ds : List PairDeed) (g : HasComeTo start mirror disks ds (disks (0 + length ds))) where
     abbrev was : List ℕ → View
     was = disks (0 + length ds)
 
@@ -138,7 +138,7 @@ module _ (known : Known) (inputs : (x : Member) (i : Input) (moment : ℕ) → I
     own_turn name second has i moment o new turned = subst (λ (m : Option (List ℕ)). IsTurned name i moment o (was name) (second_view m was) (new name) (second_view m new)) (sym has) turned
 
     by_pair : (name second : List ℕ) → mirror name ≡ Some second → (action : Action) (moment : ℕ) (o : Outcome) (new : List ℕ → View) → ((q : List ℕ) → IsSound (new q)) → IsPairCalled start mirror name action moment o was new
-        → IsPairMade name action moment o (was name) (was second) (new name) (new second) → GoesOn start mirror disks (ds ++ Called name action moment o ∷ []) new
+        → IsPairMade name action moment o (was name) (was second) (new name) (new second) → HasComeTo start mirror disks (ds ++ Called name action moment o ∷ []) new
     by_pair name second has (Orders c) moment o new later is made =
         called known inputs refusing one_pair refused start mirror apart disks ds g (sound (0 + length ds)) name second [] has (input.Ordered c) moment o is.is_action is.member is.at new
         (own_turn name second has (input.Ordered c) moment o new made) (but_own start mirror apart name is.member is.at was new is.others) later
@@ -150,7 +150,7 @@ module _ (known : Known) (inputs : (x : Member) (i : Input) (moment : ℕ) → I
     by_pair name second has Migrates moment o new later is made = absurd made
 
     cut_pair : (name second : List ℕ) → mirror name ≡ Some second → (action : Action) (moment : ℕ) (o : Outcome) (mid new : List ℕ → View) → IsPairCalled start mirror name action moment o was mid → PairOffWithin mirror name was mid new
-        → IsPairMade name action moment o (was name) (was second) (mid name) (mid second) → GoesOn start mirror disks (ds ++ CutOff name action moment o ∷ []) new
+        → IsPairMade name action moment o (was name) (was second) (mid name) (mid second) → HasComeTo start mirror disks (ds ++ CutOff name action moment o ∷ []) new
     cut_pair name second has (Orders c) moment o mid new is off made =
         cut_off known inputs refusing one_pair refused start mirror apart disks ds g (sound (0 + length ds)) name second [] has (input.Ordered c) moment o is.is_action is.member is.at mid
         (own_turn name second has (input.Ordered c) moment o mid made) (but_own start mirror apart name is.member is.at was mid is.others) new off
@@ -162,19 +162,19 @@ module _ (known : Known) (inputs : (x : Member) (i : Input) (moment : ℕ) → I
     cut_pair name second has Migrates moment o mid new is off made = absurd made
 
     by_call : (name : List ℕ) (action : Action) (moment : ℕ) (o : Outcome) (new : List ℕ → View) → ((q : List ℕ) → IsSound (new q)) → IsPairCalled start mirror name action moment o was new
-        → GoesOn start mirror disks (ds ++ Called name action moment o ∷ []) new
+        → HasComeTo start mirror disks (ds ++ Called name action moment o ∷ []) new
     by_call name action moment o new later is = go (mirror name) refl is.made
       where
-        go : (m : Option (List ℕ)) → mirror name ≡ m → IsMadeOn m name action moment o was new → GoesOn start mirror disks (ds ++ Called name action moment o ∷ []) new
+        go : (m : Option (List ℕ)) → mirror name ≡ m → IsMadeOn m name action moment o was new → HasComeTo start mirror disks (ds ++ Called name action moment o ∷ []) new
         go None none made = one_called known undamaged start mirror apart disks ds g (sound (0 + length ds)) name none action moment o is.is_action is.member is.at new made
             (but_own start mirror apart name is.member is.at was new is.others) (later name)
         go (Some second) has made = by_pair name second has action moment o new later is made
 
     by_cut : (name : List ℕ) (action : Action) (moment : ℕ) (o : Outcome) (mid new : List ℕ → View) → IsPairCalled start mirror name action moment o was mid → PairOffWithin mirror name was mid new
-        → GoesOn start mirror disks (ds ++ CutOff name action moment o ∷ []) new
+        → HasComeTo start mirror disks (ds ++ CutOff name action moment o ∷ []) new
     by_cut name action moment o mid new is off = go (mirror name) refl is.made
       where
-        go : (m : Option (List ℕ)) → mirror name ≡ m → IsMadeOn m name action moment o was mid → GoesOn start mirror disks (ds ++ CutOff name action moment o ∷ []) new
+        go : (m : Option (List ℕ)) → mirror name ≡ m → IsMadeOn m name action moment o was mid → HasComeTo start mirror disks (ds ++ CutOff name action moment o ∷ []) new
         go None none made = one_cut_off known undamaged start mirror apart disks ds g (sound (0 + length ds)) name none action moment o is.is_action is.member is.at mid made
             (but_own start mirror apart name is.member is.at was mid is.others) new off
         go (Some second) has made = cut_pair name second has action moment o mid new is off made
@@ -182,7 +182,7 @@ module _ (known : Known) (inputs : (x : Member) (i : Input) (moment : ℕ) → I
     abbrev next : List ℕ → View
     next = disks (suc (0 + length ds))
 
-    deed_goes : (d : PairDeed) (mid : List ℕ → View) → ((q : List ℕ) → IsSound (next q)) → IsDeedDone start mirror d was mid next → GoesOn start mirror disks (ds ++ d ∷ []) next
+    deed_goes : (d : PairDeed) (mid : List ℕ → View) → ((q : List ℕ) → IsSound (next q)) → IsDeedDone start mirror d was mid next → HasComeTo start mirror disks (ds ++ d ∷ []) next
     deed_goes (Called name action moment o) mid later is = by_call name action moment o next later is
     deed_goes (CutOff name action moment o) mid later is = by_cut name action moment o mid next is.0 is.1
     deed_goes (Shown name) mid later is = shows known start mirror apart disks ds g (sound (0 + length ds)) name next is later
@@ -197,18 +197,18 @@ module _ (known : Known) (inputs : (x : Member) (i : Input) (moment : ℕ) → I
     deed_goes (Lost name FirstDisk) mid later is = loses_first known start mirror apart disks ds g (sound (0 + length ds)) name next is
     deed_goes (Lost name SecondDisk) mid later is = loses_second known start mirror apart disks ds g (sound (0 + length ds)) name next is
 
-  deeds_go : (ds done : List PairDeed) → GoesOn start mirror disks done (disks (0 + length done)) → AreDeedsDone start mirror ds (0 + length done) disks ends
-      → GoesOn start mirror disks (done ++ ds) (disks (0 + length (done ++ ds)))
-  deeds_go [] done g is = subst (λ (cs : List PairDeed). GoesOn start mirror disks cs (disks (0 + length cs))) (sym (append-nil done)) g
+  deeds_go : (ds done : List PairDeed) → HasComeTo start mirror disks done (disks (0 + length done)) → AreDeedsDone start mirror ds (0 + length done) disks ends
+      → HasComeTo start mirror disks (done ++ ds) (disks (0 + length (done ++ ds)))
+  deeds_go [] done g is = subst (λ (cs : List PairDeed). HasComeTo start mirror disks cs (disks (0 + length cs))) (sym (append-nil done)) g
   deeds_go (d ∷ ds) done g is =
       let place : suc (0 + length done) ≡ 0 + length (done ++ d ∷ []) = omega (arith, length-append done (d ∷ [])) in
-      let further : GoesOn start mirror disks (done ++ d ∷ []) (disks (suc (0 + length done))) = deed_goes done g d (ends (0 + length done)) (sound (suc (0 + length done))) is.0 in
-      let rest = deeds_go ds (done ++ d ∷ []) (subst (λ (n : ℕ). GoesOn start mirror disks (done ++ d ∷ []) (disks n)) place further)
+      let further : HasComeTo start mirror disks (done ++ d ∷ []) (disks (suc (0 + length done))) = deed_goes done g d (ends (0 + length done)) (sound (suc (0 + length done))) is.0 in
+      let rest = deeds_go ds (done ++ d ∷ []) (subst (λ (n : ℕ). HasComeTo start mirror disks (done ++ d ∷ []) (disks n)) place further)
       (subst (λ (n : ℕ). AreDeedsDone start mirror ds n disks ends) place is.1) in
-      subst (λ (cs : List PairDeed). GoesOn start mirror disks cs (disks (0 + length cs))) (append_assoc done (d ∷ []) ds) rest
+      subst (λ (cs : List PairDeed). HasComeTo start mirror disks cs (disks (0 + length cs))) (append_assoc done (d ∷ []) ds) rest
 
   pub session_is_done : Laws → (deeds : List PairDeed) → IsStart start → AllStandOnOwn mirror (disks 0) start → AreDeedsDone start mirror deeds 0 disks ends → EndsOnAllImages start mirror deeds disks
   session_is_done laws deeds s on is =
-      let g : GoesOn start mirror disks ([] ++ deeds) (disks (0 + length ([] ++ deeds))) = deeds_go deeds [] (start_goes known start mirror disks on) is in
+      let g : HasComeTo start mirror disks ([] ++ deeds) (disks (0 + length ([] ++ deeds))) = deeds_go deeds [] (start_goes known start mirror disks on) is in
       let place : 0 + length deeds ≡ length deeds = omega arith in
-      end_goes known laws start mirror deeds disks s (subst (λ (n : ℕ). GoesOn start mirror disks deeds (disks n)) place g)
+      end_goes known laws start mirror deeds disks s (subst (λ (n : ℕ). HasComeTo start mirror disks deeds (disks n)) place g)

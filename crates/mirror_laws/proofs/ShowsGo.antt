@@ -9,11 +9,11 @@ use Rattle.mirror_laws.specs.Deeds.{IsLostAgainOrNot}
 use Rattle.mirror_laws.proofs.Images.{Pair, MayBe, Known}
 use Rattle.mirror_laws.proofs.Ways.{Somebody, Way, left_way}
 use Rattle.mirror_laws.proofs.SafeWays.{Reads, reads_of, left_at_end, safe_way}
-use Rattle.mirror_laws.proofs.Led.{GoesOn}
+use Rattle.mirror_laws.proofs.Led.{HasComeTo}
 use Rattle.mirror_laws.proofs.Asked.{OthersMay, somebody, ended_goes, cut_goes}
 use Rattle.mirror_laws.proofs.OwnDisks.{ButOwn, but_own, second_view, second_sound}
 
-module _ (known : Known) (start : World) (mirror : List ℕ → Option (List ℕ)) (apart : HaveOwnDisks mirror start) (disks : ℕ → List ℕ → View) (ds : List PairDeed) (g : GoesOn start mirror disks ds (disks (0 + length ds)))
+module _ (known : Known) (start : World) (mirror : List ℕ → Option (List ℕ)) (apart : HaveOwnDisks mirror start) (disks : ℕ → List ℕ → View) (ds : List PairDeed) (g : HasComeTo start mirror disks ds (disks (0 + length ds)))
     (sound : (q : List ℕ) → IsSound (disks (0 + length ds) q)) (name : List ℕ) (mid : List ℕ → View) (shown : IsPairShown start mirror name (disks (0 + length ds)) mid) where
   abbrev was : List ℕ → View
   was = disks (0 + length ds)
@@ -54,10 +54,10 @@ module _ (known : Known) (start : World) (mirror : List ℕ → Option (List ℕ
     ended_way sound_mid may =
         shown_way (left_at_end known showing name (was name) (second_view (mirror name) was) (mid name) (second_view (mirror name) mid) now safe some (sound_mid name) (second_sound (mirror name) mid sound_mid) f d may)
 
-  pub shows : ((q : List ℕ) → IsSound (mid q)) → GoesOn start mirror disks (ds ++ Shown name ∷ []) mid
+  pub shows : ((q : List ℕ) → IsSound (mid q)) → HasComeTo start mirror disks (ds ++ Shown name ∷ []) mid
   shows sound_mid =
       ended_goes start mirror apart disks ds g name shown.member shown.at mid others_stay (Shown name) [] (IsLostAgainOrNot name (was name)) (λ es is. (is, refl)) (safe.first_tells ∙ g.first_tells name shown.member shown.at) (safe.second_tells ∙ g.second_tells name shown.member shown.at)
       (λ images others. ended_way images others sound_mid)
 
-  pub show_cut_off : (new : List ℕ → View) → PairOffWithin mirror name was mid new → GoesOn start mirror disks (ds ++ ShowCutOff name ∷ []) new
+  pub show_cut_off : (new : List ℕ → View) → PairOffWithin mirror name was mid new → HasComeTo start mirror disks (ds ++ ShowCutOff name ∷ []) new
   show_cut_off new off = cut_goes start mirror apart disks ds g name shown.member shown.at mid others_stay (ShowCutOff name) (IsLostAgainOrNot name (was name)) (λ es is. (is, refl)) new off shown_way

@@ -22,7 +22,7 @@ use Rattle.mirror_laws.specs.Sessions.{Tending, Compacting, Migrating, Wiping, P
 use Rattle.mirror_laws.specs.Deeds.{IsTendingOf, IsCutTendingOf}
 use Rattle.mirror_laws.proofs.Images.{Pair, MayBe, IsLike, Known, told, fewer, stands_so, like_opened}
 use Rattle.mirror_laws.proofs.Ways.{Somebody, Way}
-use Rattle.mirror_laws.proofs.Led.{GoesOn}
+use Rattle.mirror_laws.proofs.Led.{HasComeTo}
 use Rattle.mirror_laws.proofs.Asked.{OthersMay, somebody, ended_goes, cut_goes}
 use Rattle.mirror_laws.proofs.OwnDisks.{ButOwn, second_view, second_sound, second_alike, not_second, not_first, others_stay}
 use Rattle.mirror_laws.proofs.Tending.{IsSameOr, leaves_same, second_way, since_way, wiped_way, cut_way, ended_way}
@@ -74,7 +74,7 @@ same_name : (a b : List ℕ) → Some a ≡ Some b → a ≡ b
 same_name a b e = cc e
 
 module _ (known : Known) (refused : (i j : List ℕ) (p : Party) (reason : PairCause) → Recovers i j p → IsPairRefusal i j reason → IsPairFailure p reason)
-    (start : World) (mirror : List ℕ → Option (List ℕ)) (apart : HaveOwnDisks mirror start) (disks : ℕ → List ℕ → View) (ds : List PairDeed) (g : GoesOn start mirror disks ds (disks (0 + length ds)))
+    (start : World) (mirror : List ℕ → Option (List ℕ)) (apart : HaveOwnDisks mirror start) (disks : ℕ → List ℕ → View) (ds : List PairDeed) (g : HasComeTo start mirror disks ds (disks (0 + length ds)))
     (sound : (q : List ℕ) → IsSound (disks (0 + length ds) q)) (name : List ℕ) (t : Tending) (moment : ℕ) (o : Outcome) (mid : List ℕ → View) where
   abbrev was : List ℕ → View
   was = disks (0 + length ds)
@@ -107,7 +107,7 @@ module _ (known : Known) (refused : (i j : List ℕ) (p : Party) (reason : PairC
     first_told : Tells (mid name)
     first_told = tended_tells t o (was name) (mid name) made ∙ g.first_tells name tended.member tended.at
 
-    pub tends_first : ((q : List ℕ) → IsSound (mid q)) → GoesOn start mirror disks (ds ++ Tended name FirstDisk t moment o ∷ []) mid
+    pub tends_first : ((q : List ℕ) → IsSound (mid q)) → HasComeTo start mirror disks (ds ++ Tended name FirstDisk t moment o ∷ []) mid
     tends_first sound_mid =
         ended_goes start mirror apart disks ds g name tended.member tended.at mid but_first (Tended name FirstDisk t moment o) [] (IsTendingOf FirstDisk t o name moment) (λ es is. (is, refl)) first_told
         (ap is_some second_stays.now ∙ g.second_tells name tended.member tended.at) ways
@@ -121,7 +121,7 @@ module _ (known : Known) (refused : (i j : List ℕ) (p : Party) (reason : PairC
             (fewer (mid name).may_leave (second_view (mirror name) mid).may_leave (mid name).may_leave (second_view (mirror name) was).may_leave (λ c left. left) second_stays.images (images name).first (images name).second may)
             t made
 
-    pub first_cut_off : (new : List ℕ → View) → PairOffWithin mirror name was mid new → GoesOn start mirror disks (ds ++ TendCutOff name FirstDisk t moment o ∷ []) new
+    pub first_cut_off : (new : List ℕ → View) → PairOffWithin mirror name was mid new → HasComeTo start mirror disks (ds ++ TendCutOff name FirstDisk t moment o ∷ []) new
     first_cut_off new off = cut_goes start mirror apart disks ds g name tended.member tended.at mid but_first (TendCutOff name FirstDisk t moment o) (IsCutTendingOf FirstDisk t name moment) (λ es is. (is, refl)) new off ways
       where
         ways : (images : List ℕ → Pair) (beside : OthersMay start mirror apart disks ds g name tended.member tended.at mid but_first images)
@@ -188,10 +188,10 @@ module _ (known : Known) (refused : (i j : List ℕ) (p : Party) (reason : PairC
           by_same (fewer (mid name).may_leave (second_view (mirror name) mid).may_leave (was name).may_leave (IsSameOr second_now.0 (second_view (mirror name) was).may_leave) first_stays.images
           (λ d left. same.each d ((second_sound (mirror name) mid sound_mid).counts_now (second_view (mirror name) was).moment d same.later left)) (images name).first (images name).second may)
 
-    pub tends_second : ((q : List ℕ) → IsSound (mid q)) → GoesOn start mirror disks (ds ++ Tended name SecondDisk t moment o ∷ []) mid
+    pub tends_second : ((q : List ℕ) → IsSound (mid q)) → HasComeTo start mirror disks (ds ++ Tended name SecondDisk t moment o ∷ []) mid
     tends_second sound_mid =
         ended_goes start mirror apart disks ds g name tended.member tended.at mid but_second (Tended name SecondDisk t moment o) [] (λ es. es ≡ []) (λ es is. (is, refl)) (ap is_some first_stays.now ∙ g.first_tells name tended.member tended.at)
         (tended_tells t o (second_view (mirror name) was) (second_view (mirror name) mid) made_second ∙ g.second_tells name tended.member tended.at) (λ images beside. second_ended images beside sound_mid)
 
-    pub second_cut_off : (new : List ℕ → View) → PairOffWithin mirror name was mid new → GoesOn start mirror disks (ds ++ TendCutOff name SecondDisk t moment o ∷ []) new
+    pub second_cut_off : (new : List ℕ → View) → PairOffWithin mirror name was mid new → HasComeTo start mirror disks (ds ++ TendCutOff name SecondDisk t moment o ∷ []) new
     second_cut_off new off = cut_goes start mirror apart disks ds g name tended.member tended.at mid but_second (TendCutOff name SecondDisk t moment o) (λ es. es ≡ []) (λ es is. (is, refl)) new off second_cut

@@ -1,6 +1,6 @@
 -- Which events a batch at a party is (this project's profile).
 use Rattle.std.specs.Prelude.{◌≡◌, ◌≢◌, ◌⊎◌, ℕ, Option, Some, List, [], ◌∷◌, ◌++◌, length, map, option_to_list, unwrap_or, Err}
-use Rattle.x_disk.specs.Disk.{View, Tells}
+use Rattle.x_disk.specs.Disk.{View, Tells, IsUntouched}
 use Rattle.csm_grammar.specs.declared.arrival.Arrival.{Arrival}
 use Rattle.csm_feed.specs.declared.unheard.Unheard.{Unheard}
 use Rattle.csm_feed.specs.Heard.{Heard}
@@ -11,7 +11,7 @@ use Rattle.spool_store.specs.Spools.{outbox_of}
 use Rattle.csm_spool.specs.Courses.{IsHeard, EntriesLead}
 use Rattle.csm_spool.specs.Planning.{plan_of_unheard}
 use Rattle.csm_spool.specs.Going.{HoldsKept}
-use Rattle.x_spool.specs.Outcomes.{progress_of}
+use Rattle.x_spool.specs.Outcomes.{KeepsPlans, progress_of}
 use Rattle.x_spool.specs.Onward.{HeldThese, IsUnplanned}
 use Rattle.x_spool.specs.declared.outcome.SpoolOutcome.{SpoolOutcome}
 use Rattle.x_spool.specs.declared.outcome.SpoolOutcome.TheVariants as spooling
@@ -64,7 +64,7 @@ pub record IsStretch (name : List ℕ) (entries : List Entry) (stood plans : Lis
   pub done : List Entry
   pub place : length front ≡ length stood
   pub split : entries ≡ front ++ (done ++ behind)
-  -- at a member that they lead on, each by its plan
+  -- they lead some member on, each by its plan; that it is the network's isn't said
   pub from : Member
   pub to : Member
   pub course : EntriesLead from done plans to
@@ -84,12 +84,14 @@ pub record IsFromLast (name : List ℕ) (entries : List Entry) (stood more : Lis
 abbrev pub IsOnward : List ℕ → List Entry → List EntryPlan → List EntryPlan → List Entry → List PairEvent → List (List ℕ) → Type 0
 IsOnward name entries stood more behind es texts = IsStretch name entries stood more behind es texts ⊎ IsFromLast name entries stood more behind es texts
 
--- a batch that is done goes on from the plans that the spool's image holds to its end, and the outbox of all plans is handed out
-pub record IsWholeBatch (name text : List ℕ) (entries : List Entry) (spool : View) (out : List ℕ) (es : List PairEvent) (texts : List (List ℕ)) : Type 0 where
+-- a batch that is done goes on from the plans that the spool's image holds to its end; each image that a crash may leave of the spool's
+-- disk holds all plans, and their outbox is handed out
+pub record IsWholeBatch (name text : List ℕ) (entries : List Entry) (spool spool_after : View) (out : List ℕ) (es : List PairEvent) (texts : List (List ℕ)) : Type 0 where
   pub stood : List EntryPlan
   pub held : HeldThese text entries spool stood
   pub more : List EntryPlan
   pub course : IsOnward name entries stood more [] es texts
+  pub kept : KeepsPlans spool_after (progress_of text entries (stood ++ more))
   pub outbox : out ≡ outbox_of (stood ++ more)
 
 -- one that failed goes on from them, by some of the other entries or by none; and each image that a crash may leave of a spool's disk
@@ -106,9 +108,9 @@ pub record IsBegunBatch (name text : List ℕ) (entries : List Entry) (spool spo
 abbrev pub IsPartBatch : List ℕ → List ℕ → List Entry → View → View → List PairEvent → List (List ℕ) → Type 0
 IsPartBatch name text entries spool spool_after es texts = ((es ≡ []) × (texts ≡ []) × IsUnplanned text entries spool spool_after) ⊎ IsBegunBatch name text entries spool spool_after es texts
 
--- of a batch that is refused there is no event. `spool` and `spool_after` are what is told of the spool's disk before and after
+-- of a batch that is refused there is no event, and its spool isn't written. `spool` and `spool_after` are what is told of the spool's disk before and after
 abbrev pub IsBatchOf : List ℕ → List ℕ → List Entry → View → View → SpoolOutcome → List PairEvent → List (List ℕ) → Type 0
-IsBatchOf name text entries spool spool_after (spooling.Done out) es texts = IsWholeBatch name text entries spool out es texts
+IsBatchOf name text entries spool spool_after (spooling.Done out) es texts = IsWholeBatch name text entries spool spool_after out es texts
 IsBatchOf name text entries spool spool_after spooling.Fault es texts = IsPartBatch name text entries spool spool_after es texts
 IsBatchOf name text entries spool spool_after spooling.NoMemory es texts = IsPartBatch name text entries spool spool_after es texts
-IsBatchOf name text entries spool spool_after other es texts = (es ≡ []) × (texts ≡ [])
+IsBatchOf name text entries spool spool_after other es texts = (es ≡ []) × (texts ≡ []) × (Tells spool → IsUntouched spool spool_after)

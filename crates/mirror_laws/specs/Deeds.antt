@@ -103,18 +103,18 @@ IsCutTendingOf SecondDisk t name moment es = es ≡ []
 
 -- The events of a deed, and the texts that they write: those of a call as above, and what it handed out; of a show none, or a loss as
 -- above; of a batch those of its entries; none where no party's disk is written, nor of a failure of power while none is; that loss of a
--- loss. `disks` and `ends` are what the shelf tells of each disk before and after
+-- loss. `disks` and `after` are what the shelf tells of each disk before and after
 abbrev pub IsOfPairDeed : (List ℕ → Option (List ℕ)) → PairDeed → (List ℕ → View) → (List ℕ → View) → List PairEvent → List (List ℕ) → Type 0
-IsOfPairDeed mirror (Called name action moment o) disks ends es texts = IsCallOn (mirror name) o name action moment (disks name) es × (texts ≡ reply_of o)
-IsOfPairDeed mirror (CutOff name action moment o) disks ends es texts = IsCutOn (mirror name) name action moment (disks name) es × (texts ≡ [])
-IsOfPairDeed mirror (Shown name) disks ends es texts = IsLostAgainOrNot name (disks name) es × (texts ≡ [])
-IsOfPairDeed mirror (ShowCutOff name) disks ends es texts = IsLostAgainOrNot name (disks name) es × (texts ≡ [])
-IsOfPairDeed mirror (Tended name which t moment o) disks ends es texts = IsTendingOf which t o name moment es × (texts ≡ [])
-IsOfPairDeed mirror (TendCutOff name which t moment o) disks ends es texts = IsCutTendingOf which t name moment es × (texts ≡ [])
-IsOfPairDeed mirror (Batched name spool text entries o) disks ends es texts = IsBatchOf name text entries (disks spool) (ends spool) o es texts
-IsOfPairDeed mirror Aside disks ends es texts = (es ≡ []) × (texts ≡ [])
-IsOfPairDeed mirror PowerFails disks ends es texts = (es ≡ []) × (texts ≡ [])
-IsOfPairDeed mirror (Lost name which) disks ends es texts = (es ≡ Loses name which ∷ []) × (texts ≡ [])
+IsOfPairDeed mirror (Called name action moment o) disks after es texts = IsCallOn (mirror name) o name action moment (disks name) es × (texts ≡ reply_of o)
+IsOfPairDeed mirror (CutOff name action moment o) disks after es texts = IsCutOn (mirror name) name action moment (disks name) es × (texts ≡ [])
+IsOfPairDeed mirror (Shown name) disks after es texts = IsLostAgainOrNot name (disks name) es × (texts ≡ [])
+IsOfPairDeed mirror (ShowCutOff name) disks after es texts = IsLostAgainOrNot name (disks name) es × (texts ≡ [])
+IsOfPairDeed mirror (Tended name which t moment o) disks after es texts = IsTendingOf which t o name moment es × (texts ≡ [])
+IsOfPairDeed mirror (TendCutOff name which t moment o) disks after es texts = IsCutTendingOf which t name moment es × (texts ≡ [])
+IsOfPairDeed mirror (Batched name spool text entries o) disks after es texts = IsBatchOf name text entries (disks spool) (after spool) o es texts
+IsOfPairDeed mirror Aside disks after es texts = (es ≡ []) × (texts ≡ [])
+IsOfPairDeed mirror PowerFails disks after es texts = (es ≡ []) × (texts ≡ [])
+IsOfPairDeed mirror (Lost name which) disks after es texts = (es ≡ Loses name which ∷ []) × (texts ≡ [])
 
 -- the events are those of the first deed, and then those of the others, and so are the texts
 pub record IsPairFollowed (first_is rest : List PairEvent → List (List ℕ) → Type 0) (es : List PairEvent) (texts : List (List ℕ)) : Type 0 where

@@ -29,9 +29,9 @@ pub data Tending : Type 0 where
 
 -- what is done: the party of this name is called over its one disk or its two, at a moment, with an outcome; it is called, and the
 -- power fails at some moment from the beginning of the call to the end that it would have; it is shown over its two disks, with or
--- without such a failure; one disk of it is tended, with or without such a failure; a batch is taken at it, with the spool of that name, the
--- bytes of the batch and its entries; something is done that writes no party's disk; the power fails while no such disk is written; or
--- one of a party's two disks is lost between two calls
+-- without such a failure; one disk of it is tended, with or without such a failure; a batch of these bytes and entries is taken at it,
+-- with the spool of that name; something is done that writes no party's disk; the power fails while no such disk is written; or one of
+-- a party's two disks is lost between two calls
 pub data PairDeed : Type 0 where
   Called CutOff : List ℕ → Action → ℕ → Outcome → PairDeed
   Shown ShowCutOff : List ℕ → PairDeed

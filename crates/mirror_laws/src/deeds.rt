@@ -36,7 +36,8 @@ use x_party::law_one_space;
 /// these entries, or by none. Each image that a crash may leave of the spool then holds the plans that it held and those of these
 /// entries (all; or all but a last one that changes nothing; or one more, which changes something). Or no entry was planned: each
 /// such image could be left before, or is blank, or holds the batch without plans. What the spool held and holds is said if its
-/// disk tells. A batch that was refused is no event.
+/// disk tells. A batch that was refused is no event, and its spool isn't written. An entry whose plan changes nothing may be such a
+/// last one that isn't kept; then the next batch plans it again, and it is an arrival once more.
 ///
 /// After the session, of whichever images of a party's disks a crash may leave then, the one stands for the member of the network,
 /// with its space, or of the two that member's party is to be opened, with its space, which isn't said where the first image is

@@ -47,10 +47,10 @@ abbrev pub EndsBatch : SpoolOutcome → Status → Option (List ℕ) → Option 
 EndsBatch (outcome.Done out) s before after = Puts (Some out) [] status.Done s before after
 EndsBatch o s before after = (s ≡ status_of_batch o) × (after ≡ before)
 
--- what became of a batch of the party of this name, with the spool of that name. Where the two were in step they are so
--- afterwards at every pair of images that a crash may leave, whatever came; where no batch is to be driven, or it is finished, nothing
--- is written to either disk, whatever came; where it is done all plans stand, the party stands for the end of the batch, and the outbox
--- is written; and in step or not, the party goes on from where it stood
+-- what became of a batch of the party of this name, with the spool of that name. Whatever came, the party goes on from where it stood;
+-- and where no batch is to be driven, or it is finished, nothing is written to either disk. Where it is done all plans stand, and the
+-- outbox is written. Where the two were in step they are so afterwards at every pair of images that a crash may leave, whatever came,
+-- and where it is done the party stands for the end of the batch
 pub record IsSpooling (party spool text : List ℕ) (entries : List Entry) (old new : List ℕ → View) (s : Status) (before after : Option (List ℕ)) : Type 0 where
   pub outcome : SpoolOutcome
   pub made : MakesBatch party text entries (old party) (old spool) (new party) (new spool) outcome

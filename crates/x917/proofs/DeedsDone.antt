@@ -11,7 +11,6 @@ use Rattle.party_state.specs.declared.command.Input.{Input}
 use Rattle.party_state.specs.declared.command.Input.TheVariants.{Ordered, Arrived}
 use Rattle.disk_pair.specs.Pairs.{ThirdsStay}
 use Rattle.csm_batch.specs.declared.entry.Entry.{Entry}
-use Rattle.csm_batch.specs.Batches.{IsBatch}
 use Rattle.x_party.specs.declared.outcome.Outcome.{Outcome}
 use Rattle.x_pair.specs.Dues.{IsDueTurn}
 use Rattle.x_pair.specs.Outcomes.{turning}
@@ -118,28 +117,26 @@ module _ (start : World) (mirrors : List ℕ → Option (List ℕ)) (old new : L
         (λ all is. turn_two (Arrived a) (Hears (taken all) (Some a)) name second (is.heard, is.text) call (record { makes = call.made; safe = call.safe }) thirds) left heard
 
     -- a batch that is taken
-    batch_one : (name spool text : List ℕ) (entries : List Entry) → IsBatch text entries → IsSpooling name spool text entries old new s before after → ThirdsStay name spool old new
-        → (o : Option (List ℕ)) → TakesBatch o rest text
-        → IfSome o (λ all. (es : List Entry) × IsBatch all es × OverOwn start mirrors name None (IsNobodys start mirrors spool → IsBatchCall start mirrors name spool all es old new s before after))
-    batch_one name spool text entries batch spooling thirds None takes = tt
-    batch_one name spool text entries batch spooling thirds (Some all) takes = (
-      entries,
-      subst (λ (t : List ℕ). IsBatch t entries) (sym takes.0) batch,
-      λ x at own nobodys. subst (λ (t : List ℕ). IsBatchCall start mirrors name spool t entries old new s before after) (sym takes.0) (record {
-        outcome = spooling.outcome;
-        taken = record {
-          member = x;
-          at = at;
-          alone = own;
-          nobodys = nobodys;
-          made = spooling.made;
-          onward = spooling.onward;
-          tells = spooling.in_step.party_tells;
-          others = thirds;
-        };
-        ends = spooling.ends;
-      }),
-    )
+    batch_one : (name spool text : List ℕ) (entries : List Entry) → IsSpooling name spool text entries old new s before after → ThirdsStay name spool old new
+        → OverOwn start mirrors name None (IsNobodys start mirrors spool → IsBatchCall start mirrors name spool text entries old new s before after)
+    batch_one name spool text entries spooling thirds x at own nobodys = record {
+      outcome = spooling.outcome;
+      taken = record {
+        member = x;
+        at = at;
+        alone = own;
+        nobodys = nobodys;
+        made = spooling.made;
+        onward = spooling.onward;
+        tells = spooling.in_step.party_tells;
+        others = thirds;
+      };
+      ends = spooling.ends;
+    }
+
+    text_taken : (text : List ℕ) (o : Option (List ℕ)) → TakesBatch o rest text → IfSome o (λ all. all ≡ text)
+    text_taken text None takes = tt
+    text_taken text (Some all) takes = takes.0
 
     -- ---- over one disk
 
@@ -162,7 +159,7 @@ module _ (start : World) (mirrors : List ℕ → Option (List ℕ)) (old new : L
       deed_one (order.Accept party ledger) values (inl (why, same, stay)) leaves = λ none. aside_of_all start mirrors old new sound stay
       deed_one (order.Accept party ledger) values (inr (bytes, takes, paid)) leaves = aside_paid party ledger paid.safe.party (leaves.others refl)
       deed_one (order.Spool party spool) values (inl (why, same, stay)) leaves = inl (why, same, aside_of_all start mirrors old new sound stay)
-      deed_one (order.Spool party spool) values (inr (text, entries, batch, takes, spooling)) leaves = inr (batch_one party spool text entries batch spooling (leaves.others refl) left takes)
+      deed_one (order.Spool party spool) values (inr (text, entries, batch, takes, spooling)) leaves = inr (text, entries, batch, text_taken text left takes, batch_one party spool text entries spooling (leaves.others refl))
       deed_one (order.Outbox spool) values obeys leaves = aside_untouched spool obeys.untouched (leaves.others refl)
       deed_one order.Batch values obeys leaves = aside_of_all start mirrors old new sound (leaves.others refl)
       deed_one (order.Compact party) values obeys leaves = tended_one party Compacting obeys.outcome (obeys.rewritten, obeys.safe) (leaves.others refl) obeys.ends
@@ -211,9 +208,13 @@ module _ (start : World) (mirrors : List ℕ → Option (List ℕ)) (old new : L
         deed_of_two (order.Take party) values of (inl (unheard, same, stay)) leaves = with_apart (order.Take party) party (λ is. is) leaves.others (inl (unheard, same, aside_of_all start mirrors old new sound stay))
         deed_of_two (order.Take party) values of (inr (a, heard, call)) leaves = with_apart (order.Take party) party (λ is. is) leaves.others (inr (take_two party m a heard call leaves.others))
         deed_of_two (order.Start party peer label) values of obeys leaves = with_apart (order.Start party peer label) party (λ is. is) leaves.others (command_two (command.Start peer label) party m tt obeys leaves.others)
-        deed_of_two (order.StartKk party peer label_new label single) values of obeys leaves = with_apart (order.StartKk party peer label_new label single) party (λ is. is) leaves.others (command_two (command.StartKk peer label label_new single) party m (label_given (first_of (name_of opt.New) rows) label_new values.2) obeys leaves.others)
+        deed_of_two (order.StartKk party peer label_new label single) values of obeys leaves =
+            with_apart (order.StartKk party peer label_new label single) party (λ is. is) leaves.others
+            (command_two (command.StartKk peer label label_new single) party m (label_given (first_of (name_of opt.New) rows) label_new values.2) obeys leaves.others)
         deed_of_two (order.Ask party peer ultimate) values of obeys leaves = with_apart (order.Ask party peer ultimate) party (λ is. is) leaves.others (command_two (command.Ask peer ultimate) party m tt obeys leaves.others)
-        deed_of_two (order.Translate party peer ultimate) values of obeys leaves = with_apart (order.Translate party peer ultimate) party (λ is. is) leaves.others (command_two (command.Translate peer ultimate) party m (ident_given (first_of (name_of opt.Ultimate) rows) ultimate values.2) obeys leaves.others)
+        deed_of_two (order.Translate party peer ultimate) values of obeys leaves =
+            with_apart (order.Translate party peer ultimate) party (λ is. is) leaves.others
+            (command_two (command.Translate peer ultimate) party m (ident_given (first_of (name_of opt.Ultimate) rows) ultimate values.2) obeys leaves.others)
         deed_of_two (order.Resend party peer) values of obeys leaves = with_apart (order.Resend party peer) party (λ is. is) leaves.others (command_two (command.Resend peer) party m tt obeys leaves.others)
         deed_of_two (order.End party peer name) values of obeys leaves = with_apart (order.End party peer name) party (λ is. is) leaves.others (command_two (command.End peer name) party m tt obeys leaves.others)
         deed_of_two (order.Drop party peer) values of obeys leaves = with_apart (order.Drop party peer) party (λ is. is) leaves.others (command_two (command.Drop peer) party m tt obeys leaves.others)

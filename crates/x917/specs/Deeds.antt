@@ -61,11 +61,11 @@ pub record IsBatchCall (start : World) (mirrors : List ℕ → Option (List ℕ)
   pub taken : IsBatchTaken start mirrors name spool text entries outcome old new
   pub ends : EndsBatch outcome s before after
 
--- a batch is read of the bytes, and the party of the name takes it, if it keeps one disk and the spool is nobody's; or none is read,
--- nothing is written out, and no disk of a party is written
+-- a batch is read, and the party of the name takes it, if it is one of the network that keeps one disk, and the spool is nobody's; or
+-- none is read, nothing is written out, and no disk of a party is written
 abbrev pub IsBatchDeed : World → (List ℕ → Option (List ℕ)) → List ℕ → List ℕ → Option (List ℕ) → (List ℕ → View) → (List ℕ → View) → Status → Option (List ℕ) → Option (List ℕ) → Type 0
 IsBatchDeed start mirrors name spool left old new s before after = (IsUnbatched left s × (after ≡ before) × IsAside start mirrors old new)
-    ⊎ IfSome left (λ all. (entries : List Entry) × IsBatch all entries × OverOwn start mirrors name None (IsNobodys start mirrors spool → IsBatchCall start mirrors name spool all entries old new s before after))
+    ⊎ ((text : List ℕ) × (entries : List Entry) × IsBatch text entries × IfSome left (λ all. all ≡ text) × OverOwn start mirrors name None (IsNobodys start mirrors spool → IsBatchCall start mirrors name spool text entries old new s before after))
 
 -- which deed an order is, of a party with that second disk or with none: the set-up is in front of the deeds, and a scenario is a
 -- network of its own

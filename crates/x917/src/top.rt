@@ -50,9 +50,9 @@ pub fn run<S: Source, K: Sink, H: Shelf>(
     // Where they stand for no order and ask for help, the text that begins with the lines of their topic is written, and the
     // source and the shelf stay as they are.
     ensures helps { Helps words.now result (K.written sink.old) (K.written sink.new) ((source.new ≡ source.old) × (shelf.new ≡ shelf.old)) }
-    // Otherwise they stand for an order, and it is done as it says. Of a batch: where party and spool were in step they are so
-    // afterwards at every pair of images that a crash may leave, whatever came; done, it has all plans, the party stands for its
-    // end, and the outbox is written.
+    // Otherwise they stand for an order, and it is done as it says. Of a batch: the party goes on from where it stood, whatever came;
+    // done, it has all plans, and the outbox is written; where party and spool were in step they are so afterwards at every pair of
+    // images that a crash may leave, and, done, the party stands for its end.
     ensures obeys { (order : Order) → IsOrder words.now order → Obeys order moment result (S.left source.old) (S.left source.new) (K.written sink.old) (K.written sink.new) (H.entry shelf.old) (H.entry shelf.new) }
 
     // Where no count of faults rises the answer is the one that is due, or want of memory.
