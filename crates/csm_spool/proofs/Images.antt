@@ -6,7 +6,7 @@ use Rattle.key_journal.specs.Journal.{is_blank}
 use Rattle.party_state.specs.State.{Party}
 use Rattle.change_code.specs.declared.format.Format.{Format}
 use Rattle.journal_state.specs.States as journal
-use Rattle.key_store.specs.Store.{Stored, IsStore, Stands, StandsAs, space}
+use Rattle.key_store.specs.Store.{Stored, IsStore, Stands, StandsAs}
 use Rattle.member.specs.Member.{Member}
 use Rattle.node_core.specs.Turns.{member_of, IsImageOf}
 use Rattle.spool_store.specs.declared.entry_plan.EntryPlan.{EntryPlan}

@@ -1,10 +1,10 @@
-mod Steps
+pub mod Steps
 mod Images
 mod Carried
 mod Runs
 mod Onwards
 mod Whole
-mod PlanEdits
+pub mod PlanEdits
 mod LastPlans
 mod Entries
 mod Numbers

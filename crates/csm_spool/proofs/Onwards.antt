@@ -13,7 +13,7 @@ use Rattle.csm_spool.specs.declared.outcome.Driven.TheVariants as drive
 use Rattle.csm_spool.specs.declared.catching.Caught.TheVariants as caught
 use Rattle.csm_spool.specs.Courses.{EntriesLead}
 use Rattle.csm_spool.specs.Catching.{CatchesUp, IsCatching}
-use Rattle.csm_spool.specs.Going.{open_entries, GoesOn, HasGoneOn, GoesThrough, HoldsKept, IsLeftGoing, GoesAnyhow, RunsThrough, RunsAnyhow}
+use Rattle.csm_spool.specs.Going.{open_entries, GoesOn, HasGoneOn, GoesThrough, HoldsKept, IsLeftGoing, GoesAnyhow, RunsAnyhow}
 use Rattle.csm_spool.proofs.Images.{party_images, spool_images}
 
 module _ {D E : Type 0} (told : D → View) (told_spool : E → View) (node : Stored D) (old : Spooled E) where
@@ -22,8 +22,8 @@ module _ {D E : Type 0} (told : D → View) (told_spool : E → View) (node : St
     goes_on : (more : List EntryPlan) (y : Member) → EntriesLead (member_of after) (open_entries old.progress) more y → GoesOn (member_of node) old.progress more y
     goes_on more y course = record { there = member_of after; caught_up = catches; course = course }
 
-    through : (result : Driven D E) → RunsThrough (member_of after) old.progress result → GoesThrough (member_of node) old.progress result
-    through (drive.Done n s) r = record { more = r.more; split = r.split; goes = goes_on r.more (member_of n) r.course }
+    through : (result : Driven D E) → GoesThrough (EntriesLead (member_of after) (open_entries old.progress)) old.progress result → GoesThrough (GoesOn (member_of node) old.progress) old.progress result
+    through (drive.Done n s) r = record { more = r.more; split = r.split; goes = goes_on r.more (member_of n) r.goes }
     through (drive.OutOfStep n s e) r = tt
     through (drive.NodeBroken b s) r = tt
     through (drive.SpoolBroken n b) r = tt
@@ -34,7 +34,7 @@ module _ {D E : Type 0} (told : D → View) (told_spool : E → View) (node : St
       through = through result run.through;
       left = λ tells c at.
           let is = run.left (tells_on tells) c at in
-          record { more = is.more; member = is.member; way = inr (goes_on is.more is.member is.course); stands = is.stands; kept = is.kept };
+          record { more = is.more; member = is.member; way = inr (goes_on is.more is.member is.way); stands = is.stands; kept = is.kept };
     }
 
   pub behind : (after : Stored D) (new : Spooled E) → IsCatching told told_spool node old (caught.Behind after new) → (result : Driven D E) → RunsAnyhow told told_spool after new result → GoesAnyhow told told_spool node old result
@@ -52,12 +52,12 @@ module _ {D E : Type 0} (told : D → View) (told_spool : E → View) (node : St
               (spool_images (told_spool old.disk) old.gate old.end old.progress kept tells book at);
         }
 
-    left_so : (new : Spooled E) → new ≡ old → (member : Member) (c : List ℕ) → HasGoneOn (member_of node) old.progress [] member → IsImageOf member c → IsLeftGoing (member_of node) old.progress (told_spool old.disk) (told_spool new.disk) c
+    left_so : (new : Spooled E) → new ≡ old → (member : Member) (c : List ℕ) → HasGoneOn (member_of node) old.progress [] member → IsImageOf member c → IsLeftGoing (HasGoneOn (member_of node) old.progress) old.progress (told_spool old.disk) (told_spool new.disk) c
     left_so new same member c way stands = record { more = []; member = member; way = way; stands = stands; kept = unplanned new same }
 
     -- the party is as it was
     still : IsStore (told node.disk) node.gate node.end node.format node.party → (after : Stored D) (new : Spooled E) → after ≡ node → new ≡ old → Tells (told node.disk) → (c : List ℕ) → (told after.disk).may_leave c
-        → IsLeftGoing (member_of node) old.progress (told_spool old.disk) (told_spool new.disk) c
+        → IsLeftGoing (HasGoneOn (member_of node) old.progress) old.progress (told_spool old.disk) (told_spool new.disk) c
     still store after new same still_spool tells c at =
         left_so new still_spool (member_of node) c (inl (refl, refl)) (party_images told node store tells c (subst (λ (n : Stored D). (told n.disk).may_leave c) same at))
 

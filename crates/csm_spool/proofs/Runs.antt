@@ -15,7 +15,7 @@ use Rattle.csm_spool.specs.Courses.{EntriesLead}
 use Rattle.csm_spool.specs.InStep.{InStep}
 use Rattle.spool_store.specs.Committing.{HoldsEither}
 use Rattle.csm_spool.specs.Drives.{KeepsBoth, IsRun}
-use Rattle.csm_spool.specs.Going.{open_entries, AreKept, HoldsKept, IsLeftRunning, RunsAnyhow}
+use Rattle.csm_spool.specs.Going.{open_entries, AreKept, HoldsKept, IsLeftGoing, RunsAnyhow}
 use Rattle.spool_store.specs.Spools.{Spooled, IsSpool}
 use Rattle.csm_spool.specs.Stepping.{IsNext, IsOn, IsNodeCut, IsSpoolCut}
 use Rattle.csm_spool.proofs.Steps.{course_on, commit, carried, at_rest}
@@ -174,6 +174,10 @@ module _ {D E : Type 0} (told : D → View) (told_spool : E → View) (first : S
 
     -- whoever commanded the party before
 
+    -- the entries behind the plans that stood lead by these plans there
+    abbrev Leads : List EntryPlan → Member → Type 0
+    Leads = EntriesLead (member_of first) (open_entries old.progress)
+
     -- the batch, with these plans behind those that stood
     abbrev behind_old : List EntryPlan → Progress
     behind_old plans = record { text = old.progress.text; entries = old.progress.entries; plans = old.progress.plans ++ plans }
@@ -192,18 +196,18 @@ module _ {D E : Type 0} (told : D → View) (told_spool : E → View) (first : S
 
     -- an image of the party and of the spool that stand
     left_at : (after : Stored D) (new : Spooled E) → member_of after ≡ member_of node → new.progress ≡ spool.progress → IsStore (told after.disk) after.gate after.end after.format after.party → IsSpool (told_spool new.disk) new.gate new.end new.progress
-        → Tells (told after.disk) → (Tells (told_spool old.disk) → Tells (told_spool new.disk)) → (c : List ℕ) → (told after.disk).may_leave c → IsLeftRunning (member_of first) old.progress (told_spool old.disk) (told_spool new.disk) c
+        → Tells (told after.disk) → (Tells (told_spool old.disk) → Tells (told_spool new.disk)) → (c : List ℕ) → (told after.disk).may_leave c → IsLeftGoing Leads old.progress (told_spool old.disk) (told_spool new.disk) c
     left_at after new same still store kept tells spool_tells c at = record {
       more = run.onward.0;
       member = member_of node;
-      course = run.onward.2;
+      way = run.onward.2;
       stands = subst (λ (m : Member). IsImageOf m c) same (party_images told after store tells c at);
       kept = λ was book left. held run.onward.0 run.onward.0 (inl refl) new.progress (still ∙ stands_as) book (spool_images (told_spool new.disk) new.gate new.end new.progress kept (spool_tells was) book left);
     }
 
     pub ends_anyhow : IsStore (told node.disk) node.gate node.end node.format node.party → IsSpool (told_spool spool.disk) spool.gate spool.end spool.progress → RunsAnyhow told told_spool first old (drive.Done node spool)
     ends_anyhow store kept = record {
-      through = record { more = run.onward.0; split = run.onward.1; course = run.onward.2 };
+      through = record { more = run.onward.0; split = run.onward.1; goes = run.onward.2 };
       left = λ tells c at. left_at node spool refl refl store kept (run.keeps.party_tells ∙ tells) (λ was. run.keeps.spool_tells ∙ was) c at;
     }
 
@@ -221,22 +225,22 @@ module _ {D E : Type 0} (told : D → View) (told_spool : E → View) (first : S
       holds_plan was book left = subst (HoldsPlans book) h.goes (spool_images (told_spool new.disk) new.gate new.end new.progress kept (keeps.spool_tells ∙ (run.keeps.spool_tells ∙ was)) book left)
 
       -- the image stands for the member behind the plan
-      left_there : (c : List ℕ) → IsImageOf h.there c → IsLeftRunning (member_of first) old.progress (told_spool old.disk) (told_spool new.disk) c
+      left_there : (c : List ℕ) → IsImageOf h.there c → IsLeftGoing Leads old.progress (told_spool old.disk) (told_spool new.disk) c
       left_there c there = record {
         more = run.onward.0 ++ h.plan ∷ [];
         member = h.there;
-        course = leads_on h.there h.plan h.next;
+        way = leads_on h.there h.plan h.next;
         stands = there;
         kept = λ was book left. held (run.onward.0 ++ h.plan ∷ []) (run.onward.0 ++ h.plan ∷ []) (inl refl) (with_plan spool.progress h.plan) (one_more h.plan) book (holds_plan was book left);
       }
 
       -- it stands for the member before it, which is the one behind it where nothing changes
-      left_here : (c : List ℕ) → IsImageOf (member_of node) c → (h.plan.change ≡ []) ⊎ (h.plan.change ≢ []) → IsLeftRunning (member_of first) old.progress (told_spool old.disk) (told_spool new.disk) c
+      left_here : (c : List ℕ) → IsImageOf (member_of node) c → (h.plan.change ≡ []) ⊎ (h.plan.change ≢ []) → IsLeftGoing Leads old.progress (told_spool old.disk) (told_spool new.disk) c
       left_here c here (inl none) = left_there c (subst (λ (m : Member). IsImageOf m c) (sym (unchanged (member_of node) h.there h.next.entry h.plan h.next.leads none)) here)
       left_here c here (inr some) = record {
         more = run.onward.0;
         member = member_of node;
-        course = run.onward.2;
+        way = run.onward.2;
         stands = here;
         kept = λ was book left. held run.onward.0 (run.onward.0 ++ h.plan ∷ []) (inr (inr (h.plan, some, refl))) (with_plan spool.progress h.plan) (one_more h.plan) book (holds_plan was book left);
       }
@@ -254,18 +258,18 @@ module _ {D E : Type 0} (told : D → View) (told_spool : E → View) (first : S
       held_either more without with_it book (inl holds) = held more run.onward.0 without spool.progress stands_as book holds
       held_either more without with_it book (inr holds) = held more (run.onward.0 ++ h.plan ∷ []) with_it (with_plan spool.progress h.plan) (one_more h.plan) book holds
 
-      left_cut : (c : List ℕ) → IsImageOf (member_of node) c → (h.plan.change ≡ []) ⊎ (h.plan.change ≢ []) → IsLeftRunning (member_of first) old.progress (told_spool old.disk) (told_spool broken.disk) c
+      left_cut : (c : List ℕ) → IsImageOf (member_of node) c → (h.plan.change ≡ []) ⊎ (h.plan.change ≢ []) → IsLeftGoing Leads old.progress (told_spool old.disk) (told_spool broken.disk) c
       left_cut c here (inl none) = record {
         more = run.onward.0 ++ h.plan ∷ [];
         member = h.there;
-        course = leads_on h.there h.plan h.next;
+        way = leads_on h.there h.plan h.next;
         stands = subst (λ (m : Member). IsImageOf m c) (sym (unchanged (member_of node) h.there h.next.entry h.plan h.next.leads none)) here;
         kept = λ was book left. held_either (run.onward.0 ++ h.plan ∷ []) (inr (inl (h.plan, none, refl))) (inl refl) book (h.leaves (run.keeps.spool_tells ∙ was) book left);
       }
       left_cut c here (inr some) = record {
         more = run.onward.0;
         member = member_of node;
-        course = run.onward.2;
+        way = run.onward.2;
         stands = here;
         kept = λ was book left. held_either run.onward.0 (inl refl) (inr (inr (h.plan, some, refl))) book (h.leaves (run.keeps.spool_tells ∙ was) book left);
       }

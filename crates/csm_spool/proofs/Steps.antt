@@ -1,5 +1,5 @@
 -- Courses of a batch, entry by entry.
-use Rattle.std.proofs.Common.{◌≡◌, ◌⊎◌, inl, inr, ⊎_elim, ℕ, zero, suc, List, [], ◌∷◌, ◌++◌, length, slice_get, take, Some, Ok, Err, Result, IfOk, refl, sym, ap, subst, arith, ◌∙◌}
+use Rattle.std.proofs.Common.{◌≡◌, inl, inr, ⊎_elim, ℕ, zero, suc, List, [], ◌∷◌, ◌++◌, length, slice_get, take, Some, Ok, Err, Result, IfOk, refl, sym, ap, subst, arith, ◌∙◌}
 use Rattle.std.proofs.Math.Logic.{∥∥₁_prop}
 use Rattle.csm_grammar.specs.declared.arrival.Arrival.{Arrival}
 use Rattle.csm_grammar.specs.declared.parsed.Parsed.{Parsed}

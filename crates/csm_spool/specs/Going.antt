@@ -39,58 +39,41 @@ pub record HoldsKept (p : Progress) (more : List EntryPlan) (book : List ℕ) : 
   pub are : AreKept more plans
   pub holds : HoldsPlans book (record { text = p.text; entries = p.entries; plans = p.plans ++ plans })
 
--- the plans that stood stay in front, and the member has gone on by all others
-pub record HasGoneThrough (x : Member) (old new : Progress) (y : Member) : Type 0 where
+-- the plans that stood stay in front, and all others lead there in this way
+pub record HasGoneThrough (leads : List EntryPlan → Member → Type 0) (old new : Progress) (y : Member) : Type 0 where
   pub more : List EntryPlan
   pub split : new.plans ≡ old.plans ++ more
-  pub goes : GoesOn x old more y
+  pub goes : leads more y
 
--- so it has where the batch is done
-abbrev pub GoesThrough : {D E : Type 0} → Member → Progress → Driven D E → Type 0
-GoesThrough x old (Done after new) = HasGoneThrough x old new.progress (member_of after)
-GoesThrough x old (OutOfStep after new entry) = Unit {0}
-GoesThrough x old (NodeBroken b new) = Unit {0}
-GoesThrough x old (SpoolBroken after b) = Unit {0}
-GoesThrough x old (NoMemory after new) = Unit {0}
+-- so it is where the batch is done
+abbrev pub GoesThrough : {D E : Type 0} → (List EntryPlan → Member → Type 0) → Progress → Driven D E → Type 0
+GoesThrough leads old (Done after new) = HasGoneThrough leads old new.progress (member_of after)
+GoesThrough leads old (OutOfStep after new entry) = Unit {0}
+GoesThrough leads old (NodeBroken b new) = Unit {0}
+GoesThrough leads old (SpoolBroken after b) = Unit {0}
+GoesThrough leads old (NoMemory after new) = Unit {0}
 
--- the image stands for the member as it was, or as it has gone on; and each image that a crash may leave of a spool's disk that tells
--- holds the plans by which it has
-pub record IsLeftGoing (x : Member) (p : Progress) (spool spool_after : View) (image : List ℕ) : Type 0 where
+-- the image stands for a member to whom plans lead in this way; and each image that a crash may leave of a spool's disk that tells holds
+-- these plans
+pub record IsLeftGoing (leads : List EntryPlan → Member → Type 0) (p : Progress) (spool spool_after : View) (image : List ℕ) : Type 0 where
   pub more : List EntryPlan
   pub member : Member
-  pub way : HasGoneOn x p more member
+  pub way : leads more member
   pub stands : IsImageOf member image
   pub kept : Tells spool → (book : List ℕ) → spool_after.may_leave book → HoldsKept p more book
 
--- what became of a batch: whatever came, each image that a crash may leave of a party's disk that tells is such a one
-pub record GoesAnyhow {D E : Type 0} (told_party : D → View) (told_spool : E → View) (node : Stored D) (old : Spooled E) (result : Driven D E) : Type 0 where
-  pub through : GoesThrough (member_of node) old.progress result
+-- what became of a batch: where it is done plans lead through in the one way; and whatever came, each image that a crash may leave of a
+-- party's disk that tells is one to which plans lead in the other
+pub record GoesBy {D E : Type 0} (told_party : D → View) (told_spool : E → View) (through_by left_by : List EntryPlan → Member → Type 0) (node : Stored D) (old : Spooled E) (result : Driven D E) : Type 0 where
+  pub through : GoesThrough through_by old.progress result
   pub left : Tells (told_party node.disk) → (c : List ℕ) → (told_party (party_disk result)).may_leave c
-      → IsLeftGoing (member_of node) old.progress (told_spool old.disk) (told_spool (spool_disk result)) c
+      → IsLeftGoing left_by old.progress (told_spool old.disk) (told_spool (spool_disk result)) c
 
--- from a party that is behind the plans that stood
+-- the party goes on from where it stands
+abbrev pub GoesAnyhow : {D E : Type 0} → (D → View) → (E → View) → Stored D → Spooled E → Driven D E → Type 0
+GoesAnyhow told_party told_spool node old result = GoesBy told_party told_spool (GoesOn (member_of node) old.progress) (HasGoneOn (member_of node) old.progress) node old result
 
--- the plans that stood stay in front, and the entries behind lead by all others
-pub record HasRunThrough (x : Member) (old new : Progress) (y : Member) : Type 0 where
-  pub more : List EntryPlan
-  pub split : new.plans ≡ old.plans ++ more
-  pub course : EntriesLead x (open_entries old) more y
-
-abbrev pub RunsThrough : {D E : Type 0} → Member → Progress → Driven D E → Type 0
-RunsThrough x old (Done after new) = HasRunThrough x old new.progress (member_of after)
-RunsThrough x old (OutOfStep after new entry) = Unit {0}
-RunsThrough x old (NodeBroken b new) = Unit {0}
-RunsThrough x old (SpoolBroken after b) = Unit {0}
-RunsThrough x old (NoMemory after new) = Unit {0}
-
-pub record IsLeftRunning (x : Member) (p : Progress) (spool spool_after : View) (image : List ℕ) : Type 0 where
-  pub more : List EntryPlan
-  pub member : Member
-  pub course : EntriesLead x (open_entries p) more member
-  pub stands : IsImageOf member image
-  pub kept : Tells spool → (book : List ℕ) → spool_after.may_leave book → HoldsKept p more book
-
-pub record RunsAnyhow {D E : Type 0} (told_party : D → View) (told_spool : E → View) (node : Stored D) (old : Spooled E) (result : Driven D E) : Type 0 where
-  pub through : RunsThrough (member_of node) old.progress result
-  pub left : Tells (told_party node.disk) → (c : List ℕ) → (told_party (party_disk result)).may_leave c
-      → IsLeftRunning (member_of node) old.progress (told_spool old.disk) (told_spool (spool_disk result)) c
+-- a party that is behind the plans that stood goes on by the entries behind them
+abbrev pub RunsAnyhow : {D E : Type 0} → (D → View) → (E → View) → Stored D → Spooled E → Driven D E → Type 0
+RunsAnyhow told_party told_spool node old result =
+    GoesBy told_party told_spool (EntriesLead (member_of node) (open_entries old.progress)) (EntriesLead (member_of node) (open_entries old.progress)) node old result

@@ -3,7 +3,6 @@ use Rattle.std.proofs.Common.{arith, ◌≡◌, ◌≢◌, ◌⊎◌, inl, inr, 
 use Rattle.csm_grammar.specs.declared.arrival.Arrival.{Arrival}
 use Rattle.party_state.specs.declared.command.Input.{Input}
 use Rattle.party_state.specs.declared.command.Input.TheVariants.{Arrived}
-use Rattle.party_state.specs.declared.edit.Edit.{Edit}
 use Rattle.party_state.specs.State.{Party}
 use Rattle.change_code.specs.declared.format.Format.TheVariants.{Two}
 use Rattle.change_code.specs.Code.{IsCode}
@@ -17,6 +16,8 @@ use Rattle.csm_spool.specs.Courses.{plan_for, IsRefusal, IsArrival, EntryLeads, 
 use Rattle.csm_spool.specs.Drives.{IsSettled}
 use Rattle.csm_spool.specs.Catching.{TakesUp, CatchesUp}
 use Rattle.csm_spool.specs.Going.{GoesOn, HasGoneOn, HoldsKept}
+use Rattle.csm_spool.proofs.PlanEdits.{no_code}
+use Rattle.csm_spool.proofs.Steps.{last_of}
 use Rattle.x_spool.specs.Outcomes.{KeepsPlans, progress_of}
 use Rattle.x_spool.specs.Onward.{HeldThese, WentOn}
 use Rattle.world_laws.specs.World.{World, member_at}
@@ -32,16 +33,6 @@ use Rattle.mirror_laws.proofs.Turned.{whole_at, whole_texts}
 use Rattle.mirror_laws.proofs.Moves.{Moved, unmoved, moved_then}
 
 -- ---- plans and entries by their places
-
--- a list of plans with a last one
-last_split : (plans : List EntryPlan) (number : ℕ) (plan : EntryPlan) → length plans ≡ number + 1 → slice_get plans number ≡ Some plan → (front : List EntryPlan) × (length front ≡ number) × (plans ≡ front ++ plan ∷ [])
-last_split [] number plan count at = absurd (cc at)
-last_split (q ∷ []) zero plan count at = (let is : Some q ≡ Some plan = at in let same : q ≡ plan = cc is in ([], refl, ap (λ (h : EntryPlan). h ∷ []) same))
-last_split (q ∷ []) (suc number) plan count at = absurd (cc at)
-last_split (q ∷ r ∷ plans) zero plan count at = (let never : ⊥ = omega (arith, count) in absurd never)
-last_split (q ∷ r ∷ plans) (suc number) plan count at =
-    let rest = last_split (r ∷ plans) number plan (omega (arith, count)) at in
-    (q ∷ rest.0, ap (λ (k : ℕ). suc k) rest.1, ap (λ (ps : List EntryPlan). q ∷ ps) rest.2)
 
 drop_get : (es : List Entry) (number : ℕ) (e : Entry) → slice_get es number ≡ Some e → drop number es ≡ e ∷ drop (suc number) es
 drop_get [] number e at = absurd (cc at)
@@ -64,10 +55,6 @@ within n entries x p plans y lead = elim (within_or_past n entries) [
   | inr none ↦ absurd (subst (λ (es : List Entry). EntriesLead x es (p ∷ plans) y) none lead)
 ]
 
--- nothing is the code of no change
-no_code : (edits : List Edit) → IsCode Two [] edits → ⊥
-no_code edits is = cc is.is
-
 -- a plan that isn't settled changes something
 changes_something : (party : Party) (plan : EntryPlan) → (IsSettled party plan → ⊥) → plan.change ≢ []
 changes_something party plan unsettled = λ none. unsettled (λ edits is. absurd (no_code edits (subst (λ (l : List ℕ). IsCode Two l edits) none is)))
@@ -86,14 +73,14 @@ LeadsOn x entries stood more y = EntriesLead x (drop (length stood) entries) mor
 
 taken_up : (text : List ℕ) (entries : List Entry) (stood more : List EntryPlan) (x there y : Member) → TakesUp x there (progress_of text entries stood) → EntriesLead there (drop (length stood) entries) more y → LeadsFromLast x entries stood more y
 taken_up text entries stood more x there y t course =
-    let cut = last_split stood t.last.number t.plan t.last.count t.last.plan_is in
     let behind : length stood ≡ suc t.last.number = omega (arith, t.last.count) in
+    let cut = last_of stood t.last.number t.plan behind t.last.plan_is in
     let rest : EntriesLead there (drop (suc t.last.number) entries) more y = subst (λ (n : ℕ). EntriesLead there (drop n entries) more y) behind course in
-    let first : drop (length cut.0) entries ≡ t.entry ∷ drop (suc t.last.number) entries = ap (λ (n : ℕ). drop n entries) cut.1 ∙ drop_get entries t.last.number t.entry t.last.entry_is in
+    let first : drop (length cut.0) entries ≡ t.entry ∷ drop (suc t.last.number) entries = ap (λ (n : ℕ). drop n entries) cut.2 ∙ drop_get entries t.last.number t.entry t.last.entry_is in
     record {
       front = cut.0;
       last = t.plan;
-      split = cut.2;
+      split = cut.1;
       changes = changes_something x.party t.plan t.unsettled;
       course = subst (λ (es : List Entry). EntriesLead x es (t.plan ∷ more) y) (sym first) (there, t.leads, rest);
     }

@@ -229,7 +229,7 @@ module _ {D : Type 0} (told : D → View) (sound : (d : D) → IsSound (told d))
       goes = subst (λ (p : Progress). GoesOn (member_of node) p more y) progress_is goes;
     }
 
-    left_onward : (after : View) (c : List ℕ) → IsLeftGoing (member_of node) s.progress (told s.disk) after c → IsLeftOnward text entries (told old) after (member_of node) c
+    left_onward : (after : View) (c : List ℕ) → IsLeftGoing (HasGoneOn (member_of node) s.progress) s.progress (told s.disk) after c → IsLeftOnward text entries (told old) after (member_of node) c
     left_onward after c is = record {
       stood = s.progress.plans;
       held = held_these;
